@@ -1,0 +1,4 @@
+pub mod Crc
+pub mod Faults
+pub mod Bodies
+pub mod Fields

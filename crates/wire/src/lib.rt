@@ -1,0 +1,5 @@
+//! The packet layer of the meters' line: CRC8, frames and the receiver.
+
+pub mod crc;
+pub mod fault;
+pub mod body;
