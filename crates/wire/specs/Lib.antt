@@ -2,3 +2,5 @@ pub mod Crc
 pub mod Faults
 pub mod Bodies
 pub mod Fields
+pub mod Receiving
+pub mod Receivers

@@ -3,3 +3,4 @@
 pub mod crc;
 pub mod fault;
 pub mod body;
+pub mod receiver;
