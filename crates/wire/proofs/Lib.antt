@@ -1,2 +1,4 @@
 pub mod Tables
 pub mod Judging
+pub mod Stuffing
+pub mod Writing

@@ -4,3 +4,5 @@ pub mod Bodies
 pub mod Fields
 pub mod Receiving
 pub mod Receivers
+pub mod Framing
+pub mod Refusals

@@ -5,6 +5,7 @@ use crate::fault::Fault;
 
 ghost use Prim.Native.Nat.{_+_, _*_};
 ghost use lib.Dec.{leb};
+ghost use mathlib.Core.Bool.{cond};
 ghost use mathlib.Core.Path.{_≡_};
 ghost use Rattle.wire.specs.Bodies.{verdict};
 ghost use Rattle.wire.specs.Fields.{is-request, judged, Reads};
@@ -13,7 +14,7 @@ ghost use Rattle.wire.specs.Fields.{is-request, judged, Reads};
 const SHORTEST: usize = 12;
 
 /// Who speaks: D in the parameter byte.
-#[derive(Clone, Copy, PartialEq, Eq, Debug)]
+#[derive(Clone, Copy)]
 pub enum Direction {
     Request,
     Answer,
@@ -37,6 +38,16 @@ impl Direction {
         ensures { λ r. ⌜ is-request r ≡ leb 32 parameter ⌝ }
     {
         if parameter >= 32 { Direction::Request } else { Direction::Answer }
+    }
+
+    /// D, in its place in the parameter byte.
+    pub fn bit(self) -> u8
+        ensures { λ r. ⌜ r ≡ cond (is-request self) 32 0 ⌝ }
+    {
+        match self {
+            Direction::Request => 32,
+            Direction::Answer => 0,
+        }
     }
 }
 

@@ -4,7 +4,7 @@ ghost use mathlib.Core.Path.{_≡_};
 ghost use Rattle.wire.specs.Faults.{fault-number};
 
 /// Why a body is given up; the discriminant is the fault's number.
-#[derive(Clone, Copy, PartialEq, Eq, Debug)]
+#[derive(Clone, Copy)]
 pub enum Fault {
     /// An escape byte is followed by neither of the two bytes that may follow it.
     Escape = 31,

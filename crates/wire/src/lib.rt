@@ -4,3 +4,4 @@ pub mod crc;
 pub mod fault;
 pub mod body;
 pub mod receiver;
+pub mod frame;

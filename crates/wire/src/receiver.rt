@@ -15,13 +15,13 @@ ghost use Rattle.wire.specs.Receivers.{shows, held, outcome, standing};
 pub const LONGEST: usize = 43;
 
 /// Begins a frame, and every escape inside one.
-const MARK: u8 = 0x73;
+pub const MARK: u8 = 0x73;
 /// Follows the mark at a frame's beginning, and ends the frame.
-const FLAG: u8 = 0x55;
+pub const FLAG: u8 = 0x55;
 /// Behind a mark inside a frame: the flag, as a byte of the body.
-const FLAG_ESCAPED: u8 = 0x11;
+pub const FLAG_ESCAPED: u8 = 0x11;
 /// Behind a mark inside a frame: the mark, as a byte of the body.
-const MARK_ESCAPED: u8 = 0x22;
+pub const MARK_ESCAPED: u8 = 0x22;
 
 /// Where a receiver stands between two bytes.
 #[derive(Clone, Copy)]
