@@ -7,7 +7,7 @@ use lib.Dec.{eqb, ltb}
 use lib.ListN.{length, getD, take, drop}
 use Rattle.std.specs.declared.result.Result.{Result}
 use Rattle.std.specs.declared.result.Result.the-variants.{Ok, Err}
-use Rattle.wire.specs.Bodies.{Content, Says, body-of}
+use Rattle.wire.specs.Bodies.{Content, body-of, behind}
 use Rattle.wire.specs.Receiving.{Receiving, Outcome, Ran, inside, run, nothing, fault, good}
 
 -- stuffing keeps 0x55 and 0x73 out of a body: 0x55 becomes 0x73 0x11, and 0x73 becomes 0x73 0x22
@@ -50,7 +50,7 @@ begins input = eqb (getD input 0 0) 0x73 && eqb (getD input 1 0) 0x55
 
 -- unpack, by the length of the buffer: 3 under 43, then 4 unless the input begins 0x73 0x55, then as the run from there ends
 abbrev pub unpacked : ℕ → List ℕ → Made
-unpacked room input = cond (ltb room 43) (refused 3) (cond (begins input) (ended (run (inside []) (drop 2 input))) (refused 4))
+unpacked room input = cond (ltb room 43) (refused 3) (cond (begins input) (ended (run (inside []) (behind 2 input))) (refused 4))
 
 -- The buffer holds what was made at its front, the answer is its length, and the other places are as they were; a refusal has its
 -- number, and every place is as it was.

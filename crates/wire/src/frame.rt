@@ -3,7 +3,7 @@
 use crate::body::Fields;
 use crate::crc::crc8;
 use crate::fault::Fault;
-use crate::receiver::{FLAG, FLAG_ESCAPED, LONGEST, MARK, MARK_ESCAPED};
+use crate::receiver::{Event, FLAG, FLAG_ESCAPED, LONGEST, MARK, MARK_ESCAPED, Receiver, byte_at};
 
 ghost use Prim.Native.Nat.{_+_, _-_, _*_, _<_, _≤_};
 ghost use lib.ListN.{length, take, drop};
@@ -166,4 +166,38 @@ pub fn pack(fields: &Fields, buffer: &mut [u8]) -> Result<usize, PackRefusal>
     }
     write_frame(&body[0..end], size, buffer);
     Ok(size)
+}
+
+/// Copies `body` to the buffer's front and answers its length.
+fn deliver(body: &[u8], buffer: &mut [u8]) -> usize
+    requires { ⌜ length (now body) ≤ length (now buffer) ⌝ }
+    ensures length { λ r. ⌜ r ≡ length (now (body .entry)) ⌝ }
+    ensures front { λ r. ⌜ take r (now (buffer .exit)) ≡ now (body .entry) ⌝ }
+    ensures rest { λ r. ⌜ drop r (now (buffer .exit)) ≡ drop r (now (buffer .entry)) ⌝ }
+{
+    let end = body.len();
+    buffer[0..end].copy_from_slice(body);
+    end
+}
+
+/// Puts the body of the one whole frame that is `input` at the buffer's front and answers its length.
+pub fn unpack(input: &[u8], buffer: &mut [u8]) -> Result<usize, UnpackRefusal>
+    ensures { λ r. ⌜ Writes unpack-number (unpacked (length (now (buffer .entry))) (now (input .entry))) r (now (buffer .entry)) (now (buffer .exit)) ⌝ }
+{
+    if buffer.len() < LONGEST {
+        return Err(UnpackRefusal::ShortOfBody);
+    }
+    let [MARK, FLAG, rest @ ..] = input else {
+        return Err(UnpackRefusal::NoStart);
+    };
+    let mut receiver = Receiver::inside();
+    let (taken, event) = receiver.run(rest);
+    match event {
+        None => Err(UnpackRefusal::Unfinished),
+        Some(Event::Fault(fault)) => Err(UnpackRefusal::Faulty(fault)),
+        Some(Event::Good) => match byte_at(rest, taken) {
+            Some(_) => Err(UnpackRefusal::Trailing),
+            None => Ok(deliver(receiver.body(), buffer)),
+        },
+    }
 }

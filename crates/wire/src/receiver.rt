@@ -46,13 +46,14 @@ pub enum Event {
 }
 
 /// The byte at a place, if there is one.
-fn byte_at(bytes: &[u8], at: usize) -> Option<u8>
+pub fn byte_at(bytes: &[u8], at: usize) -> Option<u8>
     ensures { λ r. ⌜ BySome r (drop at (now (bytes .entry)) ≡ []) (λ b. (at < length (now (bytes .entry))) × (drop at (now (bytes .entry)) ≡ b ∷ drop (at + 1) (now (bytes .entry)))) ⌝ }
 {
     if at < bytes.len() { Some(bytes[at]) } else { None }
 }
 
 /// A receiver, with the body as far as it has come in.
+#[derive(Drop)]
 pub struct Receiver {
     condition: Condition,
     bytes: [u8; LONGEST],
@@ -65,6 +66,13 @@ impl Receiver {
         ensures { λ r. ⌜ shows r ≡ hunting ⌝ }
     {
         Receiver { condition: Condition::Hunting, bytes: [0; LONGEST], length: 0 }
+    }
+
+    /// A receiver behind a frame's first two bytes.
+    pub fn inside() -> Receiver
+        ensures { λ r. ⌜ shows r ≡ inside [] ⌝ }
+    {
+        Receiver { condition: Condition::Inside, bytes: [0; LONGEST], length: 0 }
     }
 
     /// Takes one byte in.
@@ -105,7 +113,8 @@ impl Receiver {
 
     /// The body that the receiver holds: after a good frame, that frame's.
     pub fn body(&self) -> &[u8]
-        ensures { λ r. ⌜ now r ≡ held (now (self .entry)) ⌝ }
+        ensures bytes { λ r. ⌜ now r ≡ held (now (self .entry)) ⌝ }
+        ensures bound { λ r. ⌜ length (now r) ≤ 43 ⌝ }
     {
         let end = self.length.min(LONGEST);
         &self.bytes[0..end]
