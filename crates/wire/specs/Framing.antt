@@ -48,12 +48,21 @@ ended ran = ended-by (ran .outcome) (ran .left)
 abbrev pub begins : List ℕ → Bool
 begins input = eqb (getD input 0 0) 0x73 && eqb (getD input 1 0) 0x55
 
--- unpack, by the length of the buffer: 3 under 43, then 4 unless the input begins 0x73 0x55, then as the run from there ends
+-- the body of an input that is to be one whole frame: 4 unless it begins 0x73 0x55, then as the run from there ends
+abbrev pub unframed : List ℕ → Made
+unframed input = cond (begins input) (ended (run (inside []) (behind 2 input))) (refused 4)
+
+-- unpack, by the length of the buffer: 3 under 43, then as the input has it
 abbrev pub unpacked : ℕ → List ℕ → Made
-unpacked room input = cond (ltb room 43) (refused 3) (cond (begins input) (ended (run (inside []) (behind 2 input))) (refused 4))
+unpacked room input = cond (ltb room 43) (refused 3) (unframed input)
 
 -- The buffer holds what was made at its front, the answer is its length, and the other places are as they were; a refusal has its
 -- number, and every place is as it was.
 abbrev pub Writes : {E : Type 0} → (E → ℕ) → Made → Result ℕ E → List ℕ → List ℕ → Type 0
 Writes number m (Ok n) was now = (m ≡ made (take n now)) × (n ≤ length was) × (drop n now ≡ drop n was)
 Writes number m (Err e) was now = (m ≡ refused (number e)) × (now ≡ was)
+
+-- a fact of every granted call
+abbrev pub Granted : {E : Type 0} → Result ℕ E → Type 0 → Type 0
+Granted (Ok n) P = P
+Granted (Err e) P = Unit {0}

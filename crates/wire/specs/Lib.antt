@@ -6,3 +6,4 @@ pub mod Receiving
 pub mod Receivers
 pub mod Framing
 pub mod Refusals
+pub mod Trips

@@ -1,11 +1,18 @@
 -- The receiver of the code, as the machine that it is.
 use Prim.Native.Nat.{ℕ, min}
 use mathlib.Core.List.{List}
+use mathlib.Core.Path.{_≡_}
 use lib.ListN.{take}
+use Rattle.std.specs.declared.result.Result.{Result}
+use Rattle.std.specs.declared.result.Result.the-variants.{Ok, Err}
 use Rattle.std.specs.declared.option.Option.{Option}
 use Rattle.std.specs.declared.option.Option.the-variants.{Some, None}
 use Rattle.wire.specs.Faults.{fault-number}
 use Rattle.wire.specs.Receiving.{Receiving, Outcome, hunting, marked, inside, escaped, nothing, fault, good}
+use Rattle.wire.specs.Framing.{made, refused, unframed}
+use Rattle.wire.specs.Refusals.{unpack-number}
+use Rattle.wire.specs.Trips.{Packs-again}
+use Rattle.wire.specs.declared.frame.UnpackRefusal.{UnpackRefusal}
 use Rattle.wire.specs.declared.receiver.Condition.{Condition}
 use Rattle.wire.specs.declared.receiver.Condition.the-variants.{Hunting, Marked, Inside, Escaped}
 use Rattle.wire.specs.declared.receiver.Event.{Event}
@@ -30,3 +37,8 @@ abbrev pub outcome : Option Event → List ℕ → Outcome
 outcome None body = nothing
 outcome (Some (Fault f)) body = fault (fault-number f)
 outcome (Some Good) body = good body
+
+-- an input that is one whole good frame is accepted with its body, and then what it says packs again to it
+abbrev pub Accepts : List ℕ → Result Receiver UnpackRefusal → Type 0
+Accepts input (Ok receiver) = (unframed input ≡ made (held receiver)) × Packs-again input
+Accepts input (Err e) = unframed input ≡ refused (unpack-number e)

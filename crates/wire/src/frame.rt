@@ -12,7 +12,9 @@ ghost use mathlib.Core.Path.{_≡_};
 ghost use Rattle.std.specs.Options.{Cases as BySome};
 ghost use Rattle.wire.specs.Bodies.{two-bytes, uncrced, body-of};
 ghost use Rattle.wire.specs.Fields.{content};
-ghost use Rattle.wire.specs.Framing.{stuffed, stuffed-byte, framed, packed, unpacked, Writes};
+ghost use Rattle.wire.specs.Framing.{stuffed, stuffed-byte, framed, packed, unpacked, Writes, Granted};
+ghost use Rattle.wire.specs.Receivers.{Accepts};
+ghost use Rattle.wire.specs.Trips.{Packs-again, Unpacks-back};
 ghost use Rattle.wire.specs.Refusals.{pack-number, unpack-number};
 
 /// The most data bytes of a frame: what five bits can state.
@@ -120,6 +122,7 @@ fn write_body(fields: &Fields, body: &mut [u8]) -> usize
     requires { ⌜ length (now (now fields .payload)) ≤ 31 ⌝ ∗ ⌜ length (now body) ≡ 43 ⌝ }
     ensures length { λ r. ⌜ r ≡ 12 + length (now (now (fields .entry) .payload)) ⌝ }
     ensures body { λ r. ⌜ take r (now (body .exit)) ≡ body-of (content (now (fields .entry))) ⌝ }
+    ensures back { λ _. ⌜ Unpacks-back (content (now (fields .entry))) ⌝ }
 {
     let end = 11 + fields.payload.len();
     let header = header(fields);
@@ -153,7 +156,8 @@ fn write_frame(body: &[u8], size: usize, buffer: &mut [u8])
 
 /// Writes the frame of `fields` at the buffer's front and answers its length.
 pub fn pack(fields: &Fields, buffer: &mut [u8]) -> Result<usize, PackRefusal>
-    ensures { λ r. ⌜ Writes pack-number (packed (length (now (buffer .entry))) (content (now (fields .entry)))) r (now (buffer .entry)) (now (buffer .exit)) ⌝ }
+    ensures back { λ r. ⌜ Granted r (Unpacks-back (content (now (fields .entry)))) ⌝ }
+    ensures written { λ r. ⌜ Writes pack-number (packed (length (now (buffer .entry))) (content (now (fields .entry)))) r (now (buffer .entry)) (now (buffer .exit)) ⌝ }
 {
     if fields.payload.len() > MOST_DATA {
         return Err(PackRefusal::TooMuchData);
@@ -180,13 +184,10 @@ fn deliver(body: &[u8], buffer: &mut [u8]) -> usize
     end
 }
 
-/// Puts the body of the one whole frame that is `input` at the buffer's front and answers its length.
-pub fn unpack(input: &[u8], buffer: &mut [u8]) -> Result<usize, UnpackRefusal>
-    ensures { λ r. ⌜ Writes unpack-number (unpacked (length (now (buffer .entry))) (now (input .entry))) r (now (buffer .entry)) (now (buffer .exit)) ⌝ }
+/// A receiver that holds the body of the one whole frame that is `input`.
+fn accept(input: &[u8]) -> Result<Receiver, UnpackRefusal>
+    ensures { λ r. ⌜ Accepts (now (input .entry)) r ⌝ }
 {
-    if buffer.len() < LONGEST {
-        return Err(UnpackRefusal::ShortOfBody);
-    }
     let [MARK, FLAG, rest @ ..] = input else {
         return Err(UnpackRefusal::NoStart);
     };
@@ -197,7 +198,19 @@ pub fn unpack(input: &[u8], buffer: &mut [u8]) -> Result<usize, UnpackRefusal>
         Some(Event::Fault(fault)) => Err(UnpackRefusal::Faulty(fault)),
         Some(Event::Good) => match byte_at(rest, taken) {
             Some(_) => Err(UnpackRefusal::Trailing),
-            None => Ok(deliver(receiver.body(), buffer)),
+            None => Ok(receiver),
         },
     }
+}
+
+/// Puts the body of the one whole frame that is `input` at the buffer's front and answers its length.
+pub fn unpack(input: &[u8], buffer: &mut [u8]) -> Result<usize, UnpackRefusal>
+    ensures written { λ r. ⌜ Writes unpack-number (unpacked (length (now (buffer .entry))) (now (input .entry))) r (now (buffer .entry)) (now (buffer .exit)) ⌝ }
+    ensures again { λ r. ⌜ Granted r (Packs-again (now (input .entry))) ⌝ }
+{
+    if buffer.len() < LONGEST {
+        return Err(UnpackRefusal::ShortOfBody);
+    }
+    let receiver = accept(input)?;
+    Ok(deliver(receiver.body(), buffer))
 }

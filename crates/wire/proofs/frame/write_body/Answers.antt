@@ -7,6 +7,7 @@ use mathlib.Core.Path.{_≡_, refl, ap, sym, _∙_}
 use native.Mathlib.Omega.{arith}
 use Rattle.std.proofs.shelf.Lists.{places}
 use Rattle.wire.specs.Bodies.{body-of}
+use Rattle.wire.proofs.Tripping.{unpacks-back}
 use Rattle.wire.proofs.Writing.{two-parts, crc-behind}
 use Rattle.wire.proofs.frame.write_body.Needs as need
 
@@ -23,4 +24,5 @@ returns c =
     { length = search needs
     ; body =
         crc-behind _ _ n (n - 0) (c .crc8 .result) (search (needs, places)) (front ∙ ((λ i. head i ++ tail i) ∙ c .header-header .ensures)) (omega arith) (c .crc8 .ensures)
+    ; back = unpacks-back _ (search needs) (search needs)
     }
