@@ -41,7 +41,7 @@ impl Direction {
     }
 
     /// D, in its place in the parameter byte.
-    pub fn bit(self) -> u8
+    pub(crate) fn bit(self) -> u8
         ensures { λ r. ⌜ r ≡ cond (is-request self) 32 0 ⌝ }
     {
         match self {

@@ -1,8 +1,5 @@
 //! What a receiver says of a body that it gives up.
 
-ghost use mathlib.Core.Path.{_≡_};
-ghost use Rattle.wire.specs.Faults.{fault-number};
-
 /// Why a body is given up; the discriminant is the fault's number.
 #[derive(Clone, Copy)]
 pub enum Fault {
@@ -18,13 +15,4 @@ pub enum Fault {
     Crc = 35,
     /// C, V0 or the reserve byte is not 0.
     Reserved = 36,
-}
-
-impl Fault {
-    /// The fault's number.
-    pub fn number(self) -> u8
-        ensures { λ r. ⌜ r ≡ fault-number self ⌝ }
-    {
-        self as u8
-    }
 }

@@ -44,6 +44,21 @@ pub enum UnpackRefusal {
     Faulty(Fault),
 }
 
+impl UnpackRefusal {
+    /// The refusal's number; a fault has its own.
+    pub fn number(self) -> u8
+        ensures { λ r. ⌜ r ≡ unpack-number self ⌝ }
+    {
+        match self {
+            UnpackRefusal::ShortOfBody => 3,
+            UnpackRefusal::NoStart => 4,
+            UnpackRefusal::Unfinished => 5,
+            UnpackRefusal::Trailing => 6,
+            UnpackRefusal::Faulty(fault) => fault as u8,
+        }
+    }
+}
+
 /// What stands behind the mark in the place of a byte that may not stand in a frame's body as it is.
 fn escape(byte: u8) -> Option<u8>
     ensures { λ r. ⌜ BySome r (stuffed-byte byte ≡ byte ∷ []) (λ e. stuffed-byte byte ≡ 0x73 ∷ e ∷ []) ⌝ }

@@ -6,7 +6,7 @@ use crate::fault::Fault;
 ghost use Prim.Native.Nat.{_+_, _<_, _≤_};
 ghost use lib.ListN.{length, drop};
 ghost use mathlib.Core.Path.{_≡_};
-ghost use mathlib.Core.List.{[], _∷_};
+ghost use mathlib.Core.List.{[], _∷_, _++_};
 ghost use Rattle.std.specs.Options.{Cases as BySome};
 ghost use Rattle.wire.specs.Receiving.{hunting, inside, joined, closed, step, run};
 ghost use Rattle.wire.specs.Receivers.{shows, held, outcome, standing};
@@ -46,7 +46,7 @@ pub enum Event {
 }
 
 /// The byte at a place, if there is one.
-pub fn byte_at(bytes: &[u8], at: usize) -> Option<u8>
+pub(crate) fn byte_at(bytes: &[u8], at: usize) -> Option<u8>
     ensures { λ r. ⌜ BySome r (drop at (now (bytes .entry)) ≡ []) (λ b. (at < length (now (bytes .entry))) × (drop at (now (bytes .entry)) ≡ b ∷ drop (at + 1) (now (bytes .entry)))) ⌝ }
 {
     if at < bytes.len() { Some(bytes[at]) } else { None }
@@ -69,7 +69,7 @@ impl Receiver {
     }
 
     /// A receiver behind a frame's first two bytes.
-    pub fn inside() -> Receiver
+    pub(crate) fn inside() -> Receiver
         ensures { λ r. ⌜ shows r ≡ inside [] ⌝ }
     {
         Receiver { condition: Condition::Inside, bytes: [0; LONGEST], length: 0 }
@@ -155,15 +155,23 @@ impl Receiver {
     fn join(&mut self, byte: u8) -> Option<Event>
         ensures { λ r. ⌜ joined (held (now (self .entry))) byte ≡ (shows (now (self .exit)), outcome r (held (now (self .exit)))) ⌝ }
     {
-        let at = self.length;
-        let full = at >= LONGEST;
-        if full {
+        if self.length >= LONGEST {
             self.condition = Condition::Hunting;
             return Some(Event::Fault(Fault::Overlong));
         }
+        self.hold(byte);
+        None
+    }
+
+    /// Puts a byte behind those that are held.
+    fn hold(&mut self, byte: u8)
+        requires { ⌜ now self .length < 43 ⌝ }
+        ensures few { λ _. ⌜ length (held (now (self .entry))) < 43 ⌝ }
+        ensures shows { λ _. ⌜ shows (now (self .exit)) ≡ inside (held (now (self .entry)) ++ byte ∷ []) ⌝ }
+    {
+        let at = self.length;
         self.condition = Condition::Inside;
         self.bytes[at] = byte;
         self.length = at + 1;
-        None
     }
 }
