@@ -1,11 +1,15 @@
 //! Tries the edges of the packet layer, and prints what comes of each.
 
-use std::alloc::{AllocError, Global};
+use std::alloc::AllocError;
+use std::alloc::Global;
 use std::io;
-use wire::body::{Direction, Fields};
+use wire::body::Direction;
+use wire::body::Fields;
 use wire::crc::crc8;
-use wire::frame::{pack, unpack};
-use wire::receiver::{Event, Receiver};
+use wire::frame::pack;
+use wire::frame::unpack;
+use wire::receiver::Event;
+use wire::receiver::Receiver;
 use worked::examples;
 
 /// The longest frame has 89 bytes.
@@ -83,11 +87,20 @@ fn try_body(rt: &LibcRuntime, length: usize) -> io::Result<()> {
     }
     let mut receiver = Receiver::new();
     match receiver.run(&frame) {
-        (taken, None) => println!(rt, "a body of {length} bytes: nothing received from {taken}"),
-        (taken, Some(Event::Good)) => println!(rt, "a body of {length} bytes: received with byte {taken}"),
+        (taken, None) => println!(
+            rt,
+            "a body of {length} bytes: nothing received from {taken}"
+        ),
+        (taken, Some(Event::Good)) => println!(
+            rt,
+            "a body of {length} bytes: received with byte {taken}"
+        ),
         (taken, Some(Event::Fault(fault))) => {
             let number = fault as u8;
-            println!(rt, "a body of {length} bytes: fault {number} at byte {taken}")
+            println!(
+                rt,
+                "a body of {length} bytes: fault {number} at byte {taken}"
+            )
         }
     }
 }

@@ -33,9 +33,9 @@ verdict-good b g = let l = g .long in let s = g .summed in let p = g .plain in l
 
 pub good : (b : List ℕ) → verdict b ≡ 0 → Good b
 good b v =
-    record
-    { long = grind (arith, tells)
-    ; summed = grind (arith, tells)
-    ; plain = grind (arith, tells)
-    ; reserved = grind (arith, tells)
+    record {
+      long = grind (arith, tells);
+      summed = grind (arith, tells);
+      plain = grind (arith, tells);
+      reserved = grind (arith, tells);
     }

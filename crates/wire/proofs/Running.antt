@@ -34,8 +34,8 @@ byte-runs acc rest b h =
     cases (eqb b 0x55)
     (λ t. rw t (joins acc rest 0x55 h ∙ ap (λ v. run (inside (acc ++ v ∷ [])) rest) (sym (eqb-true b 0x55 t))))
     (λ f. cases (eqb b 0x73)
-        (λ t. rw (f, t) (joins acc rest 0x73 h ∙ ap (λ v. run (inside (acc ++ v ∷ [])) rest) (sym (eqb-true b 0x73 t))))
-        (λ g. rw (f, g) (rw (f, g) (joins acc rest b h))))
+    (λ t. rw (f, t) (joins acc rest 0x73 h ∙ ap (λ v. run (inside (acc ++ v ∷ [])) rest) (sym (eqb-true b 0x73 t))))
+    (λ g. rw (f, g) (rw (f, g) (joins acc rest b h))))
 
 pub stuffed-runs : (xs acc rest : List ℕ) → length acc + length xs ≤ 43 → run (inside acc) (stuffed xs ++ rest) ≡ run (inside (acc ++ xs)) rest
 unfolding stuffed
@@ -99,19 +99,19 @@ given body (b ∷ bs) marked e = tt
 given body (b ∷ bs) (inside acc) e =
     split (eqb b 0x55) (closed acc) (cond (eqb b 0x73) (escaped acc, nothing) (joined acc b)) (Stops bs body) e
     (λ t p.
-        let c = closed-given acc bs body p in
-        ([], (λ i. eqb-true b 0x55 t i ∷ c .0 i), c .1 ∙ sym (append-nil acc)))
+    let c = closed-given acc bs body p in
+    ([], (λ i. eqb-true b 0x55 t i ∷ c .0 i), c .1 ∙ sym (append-nil acc)))
     (λ f p.
-        split (eqb b 0x73) (escaped acc, nothing) (joined acc b) (Stops bs body) p
-        (λ t q. let g = given body bs (escaped acc) q in (g .0, ap (λ v. v ∷ bs) (eqb-true b 0x73 t) ∙ g .1, g .2))
-        (λ g q. joined-given acc bs body (b ∷ []) b (rw (f, g)) (λ r m. given body bs r m) q))
+    split (eqb b 0x73) (escaped acc, nothing) (joined acc b) (Stops bs body) p
+    (λ t q. let g = given body bs (escaped acc) q in (g .0, ap (λ v. v ∷ bs) (eqb-true b 0x73 t) ∙ g .1, g .2))
+    (λ g q. joined-given acc bs body (b ∷ []) b (rw (f, g)) (λ r m. given body bs r m) q))
 given body (b ∷ bs) (escaped acc) e =
     split (eqb b 0x11) (joined acc 0x55) (cond (eqb b 0x22) (joined acc 0x73) (cond (eqb b 0x55) (inside [], fault 31) (cond (eqb b 0x73) (marked, fault 31) (hunting, fault 31)))) (Stops bs body) e
     (λ t p. joined-given acc bs body (0x73 ∷ b ∷ []) 0x55 (ap (λ v. 0x73 ∷ v ∷ []) (eqb-true b 0x11 t)) (λ r m. given body bs r m) p)
     (λ f p.
-        split (eqb b 0x22) (joined acc 0x73) (cond (eqb b 0x55) (inside [], fault 31) (cond (eqb b 0x73) (marked, fault 31) (hunting, fault 31))) (Stops bs body) p
-        (λ t q. joined-given acc bs body (0x73 ∷ b ∷ []) 0x73 (ap (λ v. 0x73 ∷ v ∷ []) (eqb-true b 0x22 t)) (λ r m. given body bs r m) q)
-        (λ g q.
-            split (eqb b 0x55) (inside [], fault 31) (cond (eqb b 0x73) (marked, fault 31) (hunting, fault 31)) (Stops bs body) q
-            (λ t w. absurd (never w))
-            (λ h w. split (eqb b 0x73) (marked, fault 31) (hunting, fault 31) (Stops bs body) w (λ t v. absurd (never v)) (λ t v. absurd (never v)))))
+    split (eqb b 0x22) (joined acc 0x73) (cond (eqb b 0x55) (inside [], fault 31) (cond (eqb b 0x73) (marked, fault 31) (hunting, fault 31))) (Stops bs body) p
+    (λ t q. joined-given acc bs body (0x73 ∷ b ∷ []) 0x73 (ap (λ v. 0x73 ∷ v ∷ []) (eqb-true b 0x22 t)) (λ r m. given body bs r m) q)
+    (λ g q.
+    split (eqb b 0x55) (inside [], fault 31) (cond (eqb b 0x73) (marked, fault 31) (hunting, fault 31)) (Stops bs body) q
+    (λ t w. absurd (never w))
+    (λ h w. split (eqb b 0x73) (marked, fault 31) (hunting, fault 31) (Stops bs body) w (λ t v. absurd (never v)) (λ t v. absurd (never v)))))

@@ -1,5 +1,5 @@
 -- A good body and what it says, each from the other.
-use Prim.Native.Nat.{ℕ, zero, suc, _+_, _-_, _*_, _/_, _%_, _≤_, _<_}
+use Prim.Native.Nat.{ℕ, _+_, _-_, _*_, _/_, _%_, _≤_, _<_}
 use mathlib.Core.Bool.{Bool, true, false, cond}
 use mathlib.Core.List.{List, [], _∷_, _++_}
 use mathlib.Core.Path.{_≡_, refl, ap, sym, _∙_, subst}
@@ -11,7 +11,7 @@ use Rattle.std.proofs.shelf.Ways.{tells}
 use Rattle.wire.specs.Bodies.{Content, Says, body-of, uncrced, verdict, leading, final, stated, behind, two-bytes, parameter-byte}
 use Rattle.wire.specs.Crc.{crc-of}
 use Rattle.wire.proofs.Judging.{Good, good, verdict-good}
-use Rattle.wire.proofs.Writing.{four-places}
+use Rattle.wire.proofs.Writing.{places-from, spread, all-places}
 
 -- all but the last, and the last
 pub last-apart : (xs : List ℕ) → 0 < length xs → xs ≡ leading xs ++ final xs ∷ []
@@ -20,18 +20,6 @@ last-apart xs h =
     let whole : length xs ≤ length xs - 1 + 1 = omega arith in
     sym (take-all (length xs - 1 + 1) xs whole) ∙ take-more xs (length xs - 1) 0 in-range
 
--- n places from i on, one by one
-abbrev places-from : ℕ → ℕ → List ℕ → List ℕ
-places-from i zero xs = []
-places-from i (suc n) xs = getD xs i 0 ∷ places-from (i + 1) n xs
-
-spread : (n i : ℕ) (xs : List ℕ) → i + n ≤ length xs → drop i xs ≡ places-from i n xs ++ drop (i + n) xs
-spread zero i xs h = ap (λ j. drop j xs) (omega arith)
-spread (suc n) i xs h =
-    let far : i + 1 + n ≡ i + suc n = omega arith in
-    drop-more xs i 0 (omega arith)
-    ∙ ap (λ v. getD xs i 0 ∷ v) (spread n (i + 1) xs (omega arith) ∙ ap (λ j. places-from (i + 1) n xs ++ drop j xs) far)
-
 -- the bytes before the CRC: eleven, and the data
 parts : (body : List ℕ) → 12 ≤ length body → leading body ≡ places-from 0 11 body ++ leading (behind 11 body)
 parts body h =
@@ -39,8 +27,8 @@ parts body h =
     let rest : tail ≡ drop 11 body = take-rest body 11 in
     let some : 0 < length tail = omega (arith, ap length rest, length-drop 11 body) in
     let whole : body ≡ (places-from 0 11 body ++ leading tail) ++ final tail ∷ [] =
-        spread 11 0 body (omega arith)
-        ∙ (ap (λ v. places-from 0 11 body ++ v) (sym rest ∙ last-apart tail some) ∙ sym (append-assoc (places-from 0 11 body) (leading tail) (final tail ∷ [])))
+    spread 11 0 body (omega arith)
+    ∙ (ap (λ v. places-from 0 11 body ++ v) (sym rest ∙ last-apart tail some) ∙ sym (append-assoc (places-from 0 11 body) (leading tail) (final tail ∷ [])))
     in
     same-from-push (leading body) (places-from 0 11 body ++ leading tail) (final body) (final tail) (sym (last-apart body (omega arith)) ∙ whole) .0
 
@@ -65,11 +53,11 @@ said body c d s m =
     let size : length (c .payload) ≡ stated body = ap length (m .payload) ∙ (payload-length body long ∙ omega (arith, g .long)) in
     let p : parameter-byte c ≡ getD body 0 0 = parameter-is (getD body 0 0) (length (c .payload)) (c .request) (m .request) (g .plain) size in
     let u : uncrced c ≡ leading body =
-        (λ i.
-            p i ∷ sym (g .reserved) i
-            ∷ (low (c .destination) _ _ (m .destination) d i ∷ high (c .destination) _ _ (m .destination) d i
-            ∷ (low (c .source) _ _ (m .source) s i ∷ high (c .source) _ _ (m .source) s i ∷ (m .command i ∷ (m .four i ++ m .payload i)))))
-        ∙ sym (parts body long)
+    (λ i.
+    p i ∷ sym (g .reserved) i
+    ∷ (low (c .destination) _ _ (m .destination) d i ∷ high (c .destination) _ _ (m .destination) d i
+    ∷ (low (c .source) _ _ (m .source) s i ∷ high (c .source) _ _ (m .source) s i ∷ (m .command i ∷ (m .four i ++ m .payload i)))))
+    ∙ sym (parts body long)
     in
     (λ i. u i ++ crc-of (u i) ∷ []) ∙ (ap (λ v. leading body ++ v ∷ []) (sym (g .summed)) ∙ sym (last-apart body (omega arith)))
 
@@ -97,32 +85,32 @@ module _ (r : Bool) (d s m a b e f : ℕ) (p : List ℕ) (few : length p ≤ 31)
   unfolding body-of
   spelt-good =
       let x = crc-of (uncrced spelt) in
-      record
-      { long = omega (arith, length-append p (x ∷ []), stated-few)
-      ; summed = final-push (uncrced spelt) x ∙ ap crc-of (sym (leading-push (uncrced spelt) x))
-      ; plain = grind (arith, tells)
-      ; reserved = refl
+      record {
+        long = omega (arith, length-append p (x ∷ []), stated-few);
+        summed = final-push (uncrced spelt) x ∙ ap crc-of (sym (leading-push (uncrced spelt) x));
+        plain = grind (arith, tells);
+        reserved = refl;
       }
 
   spelt-says : Says (body-of spelt) spelt
   unfolding body-of
   spelt-says =
       let x = crc-of (uncrced spelt) in
-      record
-      { good = verdict-good (body-of spelt) spelt-good
-      ; request = grind (arith, tells)
-      ; destination = omega arith
-      ; source = omega arith
-      ; command = refl
-      ; four = refl
-      ; payload = sym (leading-push p x) ∙ ap leading (sym (take-rest (uncrced spelt ++ x ∷ []) 11))
+      record {
+        good = verdict-good (body-of spelt) spelt-good;
+        request = grind (arith, tells);
+        destination = omega arith;
+        source = omega arith;
+        command = refl;
+        four = refl;
+        payload = sym (leading-push p x) ∙ ap leading (sym (take-rest (uncrced spelt ++ x ∷ []) 11));
       }
 
 -- what is said is what its body says
 pub own : (c : Content) → length (c .four) ≡ 4 → length (c .payload) ≤ 31 → Says (body-of c) c
 own c l h =
     subst (λ (v : List ℕ). Says (body-of (record { request = c .request; destination = c .destination; source = c .source; command = c .command; four = v; payload = c .payload })) (record { request = c .request; destination = c .destination; source = c .source; command = c .command; four = v; payload = c .payload }))
-    (four-places (c .four) l)
+    (all-places 4 (c .four) l)
     (spelt-says (c .request) (c .destination) (c .source) (c .command) (getD (c .four) 0 0) (getD (c .four) 1 0) (getD (c .four) 2 0) (getD (c .four) 3 0) (c .payload) h)
 
 pub own-length : (c : Content) → length (c .four) ≡ 4 → length (c .payload) ≤ 31 → length (body-of c) ≤ 43

@@ -33,11 +33,11 @@ is-framed room input body e =
     split (ltb room 43) (refused 3) (cond (begins input) (ended (run (inside []) (behind 2 input))) (refused 4)) (λ m. m ≡ made body) e
     (λ t p. absurd (never p))
     (λ f p.
-        split (begins input) (ended (run (inside []) (behind 2 input))) (refused 4) (λ m. m ≡ made body) p
-        (λ t q.
-            let g = given body (behind 2 input) (inside []) q in
-            opens input t ∙ ap (λ v. 0x73 ∷ 0x55 ∷ v) (g .1 ∙ ap (λ v. stuffed v ++ 0x55 ∷ []) (sym (g .2))))
-        (λ t q. absurd (never q)))
+    split (begins input) (ended (run (inside []) (behind 2 input))) (refused 4) (λ m. m ≡ made body) p
+    (λ t q.
+    let g = given body (behind 2 input) (inside []) q in
+    opens input t ∙ ap (λ v. 0x73 ∷ 0x55 ∷ v) (g .1 ∙ ap (λ v. stuffed v ++ 0x55 ∷ []) (sym (g .2))))
+    (λ t q. absurd (never q)))
 
 -- a good body's frame unpacks to it
 pub reframed : (room : ℕ) (c : Content) → 43 ≤ room → length (c .four) ≡ 4 → length (c .payload) ≤ 31 → unpacked room (frame-of c) ≡ made (body-of c)
@@ -67,9 +67,9 @@ unstuffed (b ∷ xs) rest h =
     split (eqb b 0x55) (0x73 ∷ 0x11 ∷ []) (cond (eqb b 0x73) (0x73 ∷ 0x22 ∷ []) (b ∷ [])) (λ w. Bytes (w ++ stuffed xs ++ rest)) h
     (λ t p. (omega (arith, eqb-true b 0x55 t), unstuffed xs rest (p .1 .1)))
     (λ f p.
-        split (eqb b 0x73) (0x73 ∷ 0x22 ∷ []) (b ∷ []) (λ w. Bytes (w ++ stuffed xs ++ rest)) p
-        (λ t q. (omega (arith, eqb-true b 0x73 t), unstuffed xs rest (q .1 .1)))
-        (λ g q. (q .0, unstuffed xs rest (q .1))))
+    split (eqb b 0x73) (0x73 ∷ 0x22 ∷ []) (b ∷ []) (λ w. Bytes (w ++ stuffed xs ++ rest)) p
+    (λ t q. (omega (arith, eqb-true b 0x73 t), unstuffed xs rest (q .1 .1)))
+    (λ g q. (q .0, unstuffed xs rest (q .1))))
 
 pub packs-again : (input : List ℕ) → ((i : ℕ) → getD input i 0 < 256) → Packs-again input
 unfolding framed Packs-again

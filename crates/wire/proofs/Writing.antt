@@ -1,5 +1,5 @@
 -- Parts of a body and of a frame, put together.
-use Prim.Native.Nat.{ℕ, _+_, _-_, _≤_, _<_}
+use Prim.Native.Nat.{ℕ, zero, suc, _+_, _-_, _≤_, _<_}
 use mathlib.Core.List.{List, [], _∷_, _++_}
 use mathlib.Core.Path.{_≡_, refl, ap, sym, _∙_}
 use lib.ListN.{length, take, drop, getD, set}
@@ -7,17 +7,26 @@ use native.Mathlib.Omega.{arith}
 use Rattle.wire.specs.Crc.{crc-of}
 use Rattle.wire.specs.Framing.{stuffed, framed}
 use borrow.Rule.Slice.PartMut.{putMid}
-use Rattle.std.proofs.shelf.Lists.{take-at, take-more-set, drop-set-lt, length-append, length-drop, length-set, length-take}
+use Rattle.std.proofs.shelf.Lists.{append-nil, drop-all, drop-more, take-at, take-more-set, drop-set-lt, length-append, length-drop, length-set, length-take}
 use Rattle.std.proofs.shelf.Parts.{take-putMid, drop-putMid}
 
--- a list of four, by its places
-pub four-places : (xs : List ℕ) → length xs ≡ 4 → getD xs 0 0 ∷ getD xs 1 0 ∷ getD xs 2 0 ∷ getD xs 3 0 ∷ [] ≡ xs
-four-places (a ∷ b ∷ c ∷ d ∷ []) l = refl
-four-places [] l = absurd (omega arith)
-four-places (a ∷ []) l = absurd (omega arith)
-four-places (a ∷ b ∷ []) l = absurd (omega arith)
-four-places (a ∷ b ∷ c ∷ []) l = absurd (omega arith)
-four-places (a ∷ b ∷ c ∷ d ∷ e ∷ xs) l = absurd (omega arith)
+-- n places from i on, one by one
+abbrev pub places-from : ℕ → ℕ → List ℕ → List ℕ
+places-from i zero xs = []
+places-from i (suc n) xs = getD xs i 0 ∷ places-from (i + 1) n xs
+
+pub spread : (n i : ℕ) (xs : List ℕ) → i + n ≤ length xs → drop i xs ≡ places-from i n xs ++ drop (i + n) xs
+spread zero i xs h = ap (λ j. drop j xs) (omega arith)
+spread (suc n) i xs h =
+    let far : i + 1 + n ≡ i + suc n = omega arith in
+    drop-more xs i 0 (omega arith)
+    ∙ ap (λ v. getD xs i 0 ∷ v) (spread n (i + 1) xs (omega arith) ∙ ap (λ j. places-from (i + 1) n xs ++ drop j xs) far)
+
+-- a list of n, by its places
+pub all-places : (n : ℕ) (xs : List ℕ) → length xs ≡ n → places-from 0 n xs ≡ xs
+all-places n xs l =
+    sym (append-nil (places-from 0 n xs))
+    ∙ (ap (λ v. places-from 0 n xs ++ v) (sym (drop-all (0 + n) xs (omega arith))) ∙ sym (spread n 0 xs (omega arith)))
 
 -- the front of a list after its two parts, one behind the other, are put in place
 pub two-parts : (a k n : ℕ) (h p rest : List ℕ) → length h ≡ a → n ≡ a + length p → take n (putMid a k (h ++ rest) p) ≡ h ++ p

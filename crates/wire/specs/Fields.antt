@@ -19,13 +19,13 @@ is-request Answer = false
 
 abbrev pub content : Fields → Content
 content f =
-    record
-    { request = is-request (f .direction)
-    ; destination = f .destination
-    ; source = f .source
-    ; command = f .command
-    ; four = f .four
-    ; payload = now (f .payload)
+    record {
+      request = is-request (f .direction);
+      destination = f .destination;
+      source = f .source;
+      command = f .command;
+      four = f .four;
+      payload = now (f .payload);
     }
 
 -- what judging answered: 0 for a good body, else the fault's number

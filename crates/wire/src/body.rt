@@ -2,7 +2,6 @@
 
 use crate::crc::crc8;
 use crate::fault::Fault;
-
 ghost use Prim.Native.Nat.{_+_, _*_};
 ghost use lib.Dec.{leb};
 ghost use mathlib.Core.Bool.{cond};
@@ -37,7 +36,11 @@ impl Direction {
     fn of(parameter: u8) -> Direction
         ensures { λ r. ⌜ is-request r ≡ leb 32 parameter ⌝ }
     {
-        if parameter >= 32 { Direction::Request } else { Direction::Answer }
+        if parameter >= 32 {
+            Direction::Request
+        } else {
+            Direction::Answer
+        }
     }
 
     /// D, in its place in the parameter byte.
@@ -84,7 +87,21 @@ impl<'a> Fields<'a> {
         ensures { λ r. ⌜ Reads (now (body .entry)) r ⌝ }
     {
         judge(body)?;
-        let [parameter, _, d0, d1, s0, s1, command, f0, f1, f2, f3, rest @ ..] = body else {
+        let [
+            parameter,
+            _,
+            d0,
+            d1,
+            s0,
+            s1,
+            command,
+            f0,
+            f1,
+            f2,
+            f3,
+            rest @ ..,
+        ] = body
+        else {
             return Err(Fault::Short);
         };
         let [payload @ .., _] = rest else {
@@ -94,6 +111,13 @@ impl<'a> Fields<'a> {
         let destination = low_first(*d0, *d1);
         let source = low_first(*s0, *s1);
         let four = [*f0, *f1, *f2, *f3];
-        Ok(Fields { direction, destination, source, command: *command, four, payload })
+        Ok(Fields {
+            direction,
+            destination,
+            source,
+            command: *command,
+            four,
+            payload,
+        })
     }
 }

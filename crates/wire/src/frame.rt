@@ -3,8 +3,14 @@
 use crate::body::Fields;
 use crate::crc::crc8;
 use crate::fault::Fault;
-use crate::receiver::{Event, FLAG, FLAG_ESCAPED, LONGEST, MARK, MARK_ESCAPED, Receiver, byte_at};
-
+use crate::receiver::Event;
+use crate::receiver::FLAG;
+use crate::receiver::FLAG_ESCAPED;
+use crate::receiver::LONGEST;
+use crate::receiver::MARK;
+use crate::receiver::MARK_ESCAPED;
+use crate::receiver::Receiver;
+use crate::receiver::byte_at;
 ghost use Prim.Native.Nat.{_+_, _-_, _*_, _<_, _≤_};
 ghost use lib.ListN.{length, take, drop};
 ghost use mathlib.Core.List.{[], _∷_, _++_};

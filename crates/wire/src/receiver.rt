@@ -2,7 +2,6 @@
 
 use crate::body::judge;
 use crate::fault::Fault;
-
 ghost use Prim.Native.Nat.{_+_, _<_, _≤_};
 ghost use lib.ListN.{length, drop};
 ghost use mathlib.Core.Path.{_≡_};
@@ -49,7 +48,11 @@ pub enum Event {
 pub(crate) fn byte_at(bytes: &[u8], at: usize) -> Option<u8>
     ensures { λ r. ⌜ BySome r (drop at (now (bytes .entry)) ≡ []) (λ b. (at < length (now (bytes .entry))) × (drop at (now (bytes .entry)) ≡ b ∷ drop (at + 1) (now (bytes .entry)))) ⌝ }
 {
-    if at < bytes.len() { Some(bytes[at]) } else { None }
+    if at < bytes.len() {
+        Some(bytes[at])
+    } else {
+        None
+    }
 }
 
 /// A receiver, with the body as far as it has come in.
@@ -65,14 +68,22 @@ impl Receiver {
     pub fn new() -> Receiver
         ensures { λ r. ⌜ shows r ≡ hunting ⌝ }
     {
-        Receiver { condition: Condition::Hunting, bytes: [0; LONGEST], length: 0 }
+        Receiver {
+            condition: Condition::Hunting,
+            bytes: [0; LONGEST],
+            length: 0,
+        }
     }
 
     /// A receiver behind a frame's first two bytes.
     pub(crate) fn inside() -> Receiver
         ensures { λ r. ⌜ shows r ≡ inside [] ⌝ }
     {
-        Receiver { condition: Condition::Inside, bytes: [0; LONGEST], length: 0 }
+        Receiver {
+            condition: Condition::Inside,
+            bytes: [0; LONGEST],
+            length: 0,
+        }
     }
 
     /// Takes one byte in.
@@ -91,8 +102,14 @@ impl Receiver {
             (Condition::Escaped, FLAG_ESCAPED) => self.join(FLAG),
             (Condition::Escaped, MARK_ESCAPED) => self.join(MARK),
             (Condition::Escaped, FLAG) => self.open(Some(Event::Fault(Fault::Escape))),
-            (Condition::Escaped, MARK) => self.turn(Condition::Marked, Some(Event::Fault(Fault::Escape))),
-            (Condition::Escaped, _) => self.turn(Condition::Hunting, Some(Event::Fault(Fault::Escape))),
+            (Condition::Escaped, MARK) => self.turn(
+                Condition::Marked,
+                Some(Event::Fault(Fault::Escape)),
+            ),
+            (Condition::Escaped, _) => self.turn(
+                Condition::Hunting,
+                Some(Event::Fault(Fault::Escape)),
+            ),
         }
     }
 

@@ -7,16 +7,16 @@ use Rattle.worked.proofs.examples.Needs as need
 pub returns : need.returns
 unfolding body-of crc-from eight-shifts stuffed framed
 returns c =
-    record
-    { count = refl
-    ; examples =
-        record
-        { crc-of-nothing = refl
-        ; crc-of-one = refl
-        ; crc-of-two = refl
-        ; stuffing = refl
-        ; ping = refl
-        ; wrong-crc = refl
-        ; marked-twice = refl
-        }
+    record {
+      count = refl;
+      examples =
+          record {
+            crc-of-nothing = refl;
+            crc-of-one = refl;
+            crc-of-two = refl;
+            stuffing = refl;
+            ping = refl;
+            wrong-crc = refl;
+            marked-twice = refl;
+          };
     }

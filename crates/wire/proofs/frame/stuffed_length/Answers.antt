@@ -11,9 +11,10 @@ pub loop-byte-again : need.loop-byte-again
 loop-byte-again c =
     let more = ap length (stuffed-more (c .args .bytes .now) (c .loop-byte .byte-index) (c .loop-byte-test .taken)) in
     let both = simp length-append at more in
-    elim (c .match-escape .came)
-    [ in-Some w ↦ (search needs, omega (arith, ap length (w .in-Some .ensures tt), w .length-is))
-    | in-None w ↦ (search needs, omega (arith, ap length (w .in-None .ensures tt), w .length-is)) ]
+    elim (c .match-escape .came) [
+      | in-Some w ↦ (search needs, omega (arith, ap length (w .in-Some .ensures tt), w .length-is))
+      | in-None w ↦ (search needs, omega (arith, ap length (w .in-None .ensures tt), w .length-is))
+    ]
 
 pub returns : need.returns
 returns c =

@@ -20,9 +20,9 @@ returns c =
     let head = c .copy-from-slice .ensures .after in
     let tail = c .copy-from-slice-2 .ensures .after in
     let front = two-parts 11 (n - 11) n h p (postOf 0 11 (c .args .body .now)) (search needs) (search needs) in
-    record
-    { length = search needs
-    ; body =
-        crc-behind _ _ n (n - 0) (c .crc8 .result) (search (needs, places)) (front ∙ ((λ i. head i ++ tail i) ∙ c .header-header .ensures)) (omega arith) (c .crc8 .ensures)
-    ; back = unpacks-back _ (search needs) (search needs)
+    record {
+      length = search needs;
+      body =
+          crc-behind _ _ n (n - 0) (c .crc8 .result) (search (needs, places)) (front ∙ ((λ i. head i ++ tail i) ∙ c .header-header .ensures)) (omega arith) (c .crc8 .ensures);
+      back = unpacks-back _ (search needs) (search needs);
     }

@@ -15,9 +15,9 @@ returns c =
     let e = c .stuff .ensures in
     let l = ap length e in
     let n = c .args .size in
-    record
-    { front =
-        framed-front (c .args .buffer .now) s 0x73 0x55 0x55 n (n - 1 - 2) (omega arith) (search needs) (omega arith)
-        ∙ ap (λ v. 0x73 ∷ 0x55 ∷ (v ++ 0x55 ∷ [])) e
-    ; rest = framed-rest (c .args .buffer .now) s 0x73 0x55 0x55 n (n - 1 - 2) (omega arith) (search needs) (omega arith)
+    record {
+      front =
+          framed-front (c .args .buffer .now) s 0x73 0x55 0x55 n (n - 1 - 2) (omega arith) (search needs) (omega arith)
+          ∙ ap (λ v. 0x73 ∷ 0x55 ∷ (v ++ 0x55 ∷ [])) e;
+      rest = framed-rest (c .args .buffer .now) s 0x73 0x55 0x55 n (n - 1 - 2) (omega arith) (search needs) (omega arith);
     }

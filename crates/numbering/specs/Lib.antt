@@ -1,0 +1,3 @@
+pub mod Exactly
+pub mod Numbered
+pub mod Parameters
