@@ -11,8 +11,8 @@ use Rattle.script.specs.declared.command.Direction.{Direction}
 use Rattle.script.specs.declared.command.Direction.the-variants.{Request, Answer}
 use Rattle.script.specs.declared.command.Line.{Line}
 use Rattle.script.specs.declared.command.Line.the-variants.{Nothing, Unreadable, Command as Asks}
-use Rattle.script.specs.Grammar.{meaningOf}
-use Rattle.script.specs.Shown.{lineShown}
+use Rattle.script.specs.Grammar.{meaning-of}
+use Rattle.script.specs.Shown.{line-shown}
 use Rattle.tokens.specs.Words.{words}
 use Rattle.wire.specs.Framing.{packed, unpacked}
 use Rattle.answers.specs.Frames.{made-text}
@@ -46,7 +46,7 @@ Line-text (Asks c) text = Reply c text
 
 -- the text that answers a line, by what the grammar reads in it
 abbrev pub Answers : List ℕ → List ℕ → Type 0
-Answers line text = (l : Line) × (lineShown l ≡ meaningOf (words line)) × Line-text l text
+Answers line text = (l : Line) × (line-shown l ≡ meaning-of (words line)) × Line-text l text
 
 -- some text that has the property is appended, and nothing else
 abbrev pub Appends : (List ℕ → Type 0) → List ℕ → List ℕ → Type 0

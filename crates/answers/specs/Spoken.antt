@@ -18,11 +18,11 @@ use Rattle.protocol.specs.declared.selector.Selector.{Selector}
 use Rattle.protocol.specs.declared.selector.Selector.the-variants as selector
 use Rattle.protocol.specs.Looks.{Looked, refusal-number}
 use Rattle.numbering.specs.Numbered.{command-number, energy-number, field-number, parameter-number, relay-number, position-number}
-use Rattle.text.specs.Answers.{refusal, solidPairs, trailingNumbers, textWord}
+use Rattle.text.specs.Answers.{refusal, solid-pairs, trailing-numbers, text-word}
 
 -- a word and numbers behind it
 unfoldable pub counted : List ℕ → List ℕ → List ℕ
-counted word numbers = word ++ trailingNumbers numbers
+counted word numbers = word ++ trailing-numbers numbers
 
 abbrev pub selector-text : Selector → List ℕ
 selector-text selector.Ping = counted (codes " ping") []
@@ -41,12 +41,12 @@ counters-numbers c = c .config ∷ c .«voltage_ratio» ∷ c .«current_ratio»
 abbrev pub answer-text : Answer → List ℕ
 answer-text (answer.Ping v i) = counted (codes " ping") (v ∷ i ∷ [])
 answer-text (answer.Counter e k) = counted (codes " counter") (energy-number e ∷ counters-numbers k)
-answer-text (answer.Text f t) = counted (codes " string") (field-number f ∷ []) ++ 32 ∷ textWord (now t)
+answer-text (answer.Text f t) = counted (codes " string") (field-number f ∷ []) ++ 32 ∷ text-word (now t)
 answer-text (answer.Parameter p v) = counted (codes " parameter") (parameter-number p ∷ v ∷ [])
 answer-text answer.Relay = counted (codes " relay") []
 
 abbrev pub look-text : Look → List ℕ
-look-text (look.Question d s password q) = counted (codes "question") (d ∷ s ∷ []) ++ (32 ∷ (solidPairs password ++ question-text q))
+look-text (look.Question d s password q) = counted (codes "question") (d ∷ s ∷ []) ++ (32 ∷ (solid-pairs password ++ question-text q))
 look-text (look.Answer d s status x) = counted (codes "answer") (d ∷ s ∷ status) ++ answer-text x
 look-text (look.Complaint d s c status) = counted (codes "complaint") (d ∷ s ∷ command-number c ∷ status)
 

@@ -7,7 +7,7 @@ ghost use mathlib.Core.Path.{_≡_};
 ghost use Rattle.std.specs.Of.String.{string-bytes};
 ghost use Rattle.std.specs.Vec.{made};
 ghost use Rattle.answers.specs.Spoken.{counted, selector-text, question-text, counters-numbers, answer-text, look-text, Look-text};
-ghost use Rattle.text.specs.Answers.{solidPairs, textWord};
+ghost use Rattle.text.specs.Answers.{solid-pairs, text-word};
 use protocol::answer::Answer;
 use protocol::counters::Counters;
 use protocol::look::Look;
@@ -105,7 +105,7 @@ fn write_answer(out: &mut String, answer: &Answer<'_>) -> Result<(), AllocError>
 
 /// A subscriber string behind its field.
 fn write_string(out: &mut String, field: u8, text: &[u8]) -> Result<(), AllocError>
-    ensures { λ r. ⌜ made r (λ _. string-bytes (now (out .exit)) ≡ string-bytes (now (out .entry)) ++ (counted (codes " string") (field ∷ []) ++ 32 ∷ textWord (now (text .entry)))) ⌝ }
+    ensures { λ r. ⌜ made r (λ _. string-bytes (now (out .exit)) ≡ string-bytes (now (out .entry)) ++ (counted (codes " string") (field ∷ []) ++ 32 ∷ text-word (now (text .entry)))) ⌝ }
 {
     write_counted(out, " string", &[field as u32])?;
     out.push_str(" ")?;
@@ -113,29 +113,64 @@ fn write_string(out: &mut String, field: u8, text: &[u8]) -> Result<(), AllocErr
     Ok(())
 }
 
-/// What is asked, behind who asks whom by which password.
+/// What is asked, behind who is asked, who asks and the password.
 fn write_asked(
     out: &mut String,
-    numbers: &[u32],
+    ends: [u16; 2],
     password: [u8; 4],
     question: Question,
 ) -> Result<(), AllocError>
-    ensures { λ r. ⌜ made r (λ _. string-bytes (now (out .exit)) ≡ string-bytes (now (out .entry)) ++ (counted (codes "question") (now (numbers .entry)) ++ (32 ∷ (solidPairs password ++ question-text question)))) ⌝ }
+    ensures { λ r. ⌜ made r (λ _. string-bytes (now (out .exit)) ≡ string-bytes (now (out .entry)) ++ (counted (codes "question") ends ++ (32 ∷ (solid-pairs password ++ question-text question)))) ⌝ }
 {
-    write_counted(out, "question", numbers)?;
+    let [to, from] = ends;
+    write_counted(out, "question", &[to as u32, from as u32])?;
     out.push_str(" ")?;
     write_password(out, password)?;
     write_question(out, question)?;
     Ok(())
 }
 
-/// What is answered, behind who answers whom and the three statuses.
-fn write_answered(out: &mut String, numbers: &[u32], answer: &Answer<'_>) -> Result<(), AllocError>
-    ensures { λ r. ⌜ made r (λ _. string-bytes (now (out .exit)) ≡ string-bytes (now (out .entry)) ++ (counted (codes "answer") (now (numbers .entry)) ++ answer-text (now (answer .entry)))) ⌝ }
+/// What is answered, behind who is answered, who answers and three statuses.
+fn write_answered(
+    out: &mut String,
+    ends: [u16; 2],
+    status: [u8; 3],
+    answer: &Answer<'_>,
+) -> Result<(), AllocError>
+    ensures { λ r. ⌜ made r (λ _. string-bytes (now (out .exit)) ≡ string-bytes (now (out .entry)) ++ (counted (codes "answer") (ends ++ status) ++ answer-text (now (answer .entry)))) ⌝ }
 {
-    write_counted(out, "answer", numbers)?;
+    let [to, from] = ends;
+    let [s1, s2, s3] = status;
+    write_counted(
+        out,
+        "answer",
+        &[to as u32, from as u32, s1 as u32, s2 as u32, s3 as u32],
+    )?;
     write_answer(out, answer)?;
     Ok(())
+}
+
+/// The command complained of and four statuses, behind who is told and who complains.
+fn write_complaint(
+    out: &mut String,
+    ends: [u16; 2],
+    command: u8,
+    status: [u8; 4],
+) -> Result<(), AllocError>
+    ensures { λ r. ⌜ made r (λ _. string-bytes (now (out .exit)) ≡ string-bytes (now (out .entry)) ++ counted (codes "complaint") (ends ++ command ∷ status)) ⌝ }
+{
+    let [to, from] = ends;
+    let [s1, s2, s3, s4] = status;
+    let numbers = [
+        to as u32,
+        from as u32,
+        command as u32,
+        s1 as u32,
+        s2 as u32,
+        s3 as u32,
+        s4 as u32,
+    ];
+    write_counted(out, "complaint", &numbers)
 }
 
 fn write_look(out: &mut String, look: &Look<'_>) -> Result<(), AllocError>
@@ -147,52 +182,19 @@ fn write_look(out: &mut String, look: &Look<'_>) -> Result<(), AllocError>
             source,
             password,
             question,
-        } => {
-            write_asked(
-                out,
-                &[*destination as u32, *source as u32],
-                *password,
-                *question,
-            )
-        }
+        } => { write_asked(out, [*destination, *source], *password, *question) }
         Look::Answer {
             destination,
             source,
             status,
             answer,
-        } => {
-            let [s1, s2, s3] = *status;
-            write_answered(
-                out,
-                &[
-                    *destination as u32,
-                    *source as u32,
-                    s1 as u32,
-                    s2 as u32,
-                    s3 as u32,
-                ],
-                answer,
-            )
-        }
+        } => { write_answered(out, [*destination, *source], *status, answer) }
         Look::Complaint {
             destination,
             source,
             command,
             status,
-        } => {
-            let [s1, s2, s3, s4] = *status;
-            let number = command.number() as u32;
-            let numbers = [
-                *destination as u32,
-                *source as u32,
-                number,
-                s1 as u32,
-                s2 as u32,
-                s3 as u32,
-                s4 as u32,
-            ];
-            write_counted(out, "complaint", &numbers)
-        }
+        } => { write_complaint(out, [*destination, *source], command.number(), *status) }
     }
 }
 

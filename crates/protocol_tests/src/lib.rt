@@ -1,4 +1,5 @@
-// What the crate `protocol` does on examples.
+//! What the crate `protocol` does on examples.
+
 use numbering::Command;
 use protocol::answer::Answer;
 use protocol::look::Look;

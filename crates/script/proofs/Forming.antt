@@ -15,11 +15,11 @@ use Rattle.std.specs.declared.option.Option.{Option}
 use Rattle.std.specs.declared.option.Option.the-variants.{Some, None}
 use Rattle.std.proofs.shelf.Equals.{sameBytes-decides}
 use Rattle.std.proofs.shelf.Tests.{cases-bool, and-parts, and-from, eqb-true, eq-eqb, ne-eqb, ltb-true, lt-ltb, leb-true, le-leb}
-use Rattle.tokens.specs.Numerals.{numeral, upTo}
-use Rattle.tokens.specs.Bytes.{pairs, bytesOf, fourOf}
-use Rattle.tokens.specs.Names.{letter, allLetters, nameOf}
-use Rattle.script.specs.Grammar.{Kind, Value, Body, Said, Form, Meaning, number, four, name, direction, num, raw, called, request, answer, body, said, silence, unreadable, command, call, valueOf, directionOf, led, closing, bodyOf, saidBy, saidByAny, found, commands, calls, addressed, calling, commanded, sentence, meaningOf}
-use Rattle.script.specs.Spells.{Writes, Follows, FormsExact, In, Says, Asks, LinesExact, a-number, four-bytes, a-name, a-request, an-answer, no-more, the-bytes, argument, a-command, a-call}
+use Rattle.tokens.specs.Numerals.{numeral, up-to}
+use Rattle.tokens.specs.Bytes.{pairs, bytes-of, four-of}
+use Rattle.tokens.specs.Names.{letter, all-letters, name-of}
+use Rattle.script.specs.Grammar.{Kind, Value, Body, Said, Form, Meaning, number, four, name, direction, num, raw, called, request, answer, body, said, silence, unreadable, command, call, value-of, direction-of, led, closing, body-of, said-by, said-by-any, found, commands, calls, addressed, calling, commanded, sentence, meaning-of}
+use Rattle.script.specs.Spells.{Writes, Follows, Forms-exact, In, Says, Asks, Lines-exact, a-number, four-bytes, a-name, a-request, an-answer, no-more, the-bytes, argument, a-command, a-call}
 use Rattle.tokens.specs.Laws.{Parted}
 use Rattle.tokens.specs.Words.{words}
 use Rattle.tokens.proofs.Lawful.{spelt-numeral, numeral-spelt, pairs-upper, upper-pairs, words-exact}
@@ -37,59 +37,59 @@ cond-inside : {X : Type 0} (b : Bool) (o : Option X) (x : X) → cond b o None �
 cond-inside true o x e = (refl, e)
 cond-inside false o x e = never e
 
-upTo-inside : (most n : ℕ) (o : Option ℕ) → upTo most o ≡ Some n → (o ≡ Some n) × (n ≤ most)
+upTo-inside : (most n : ℕ) (o : Option ℕ) → up-to most o ≡ Some n → (o ≡ Some n) × (n ≤ most)
 upTo-inside most n None e = never e
 upTo-inside most n (Some m) e =
     let h = cond-inside (leb m most) (Some m) n e in
     (h .1, let q : m ≡ n = let k = h .1 in cc in subst (λ x. x ≤ most) q (leb-true m most (h .0)))
 
-letters-every : (w : List ℕ) → allLetters w ≡ true → Every (λ b. (97 ≤ b) × (b ≤ 122)) w
+letters-every : (w : List ℕ) → all-letters w ≡ true → Every (λ b. (97 ≤ b) × (b ≤ 122)) w
 letters-every [] e = tt
 letters-every (b ∷ w) e =
-    let p = and-parts (letter b) (allLetters w) e in
+    let p = and-parts (letter b) (all-letters w) e in
     let q = and-parts (leb 97 b) (leb b 122) (p .0) in
     ((leb-true 97 b (q .0), leb-true b 122 (q .1)), letters-every w (p .1))
 
-every-letters : (w : List ℕ) → Every (λ b. (97 ≤ b) × (b ≤ 122)) w → allLetters w ≡ true
+every-letters : (w : List ℕ) → Every (λ b. (97 ≤ b) × (b ≤ 122)) w → all-letters w ≡ true
 every-letters [] u = refl
-every-letters (b ∷ w) u = and-from (letter b) (allLetters w) (and-from (leb 97 b) (leb b 122) (le-leb 97 b (u .0 .0)) (le-leb b 122 (u .0 .1))) (every-letters w (u .1))
+every-letters (b ∷ w) u = and-from (letter b) (all-letters w) (and-from (leb 97 b) (leb b 122) (le-leb 97 b (u .0 .0)) (le-leb b 122 (u .0 .1))) (every-letters w (u .1))
 
-value-writes : (k : Kind) (w : List ℕ) (v : Value) → valueOf k w ≡ Some v → Writes k w v
+value-writes : (k : Kind) (w : List ℕ) (v : Value) → value-of k w ≡ Some v → Writes k w v
 value-writes (number most) w v e =
-    let h = mapped-inside num (upTo most (numeral w)) v e in
+    let h = mapped-inside num (up-to most (numeral w)) v e in
     let g = upTo-inside most (h .0) (numeral w) (h .1) in
     subst (Writes (number most) w) (h .2) (a-number most (h .0) w (numeral-spelt w (h .0) (g .0)) (g .1))
 value-writes four w v e =
-    let h = mapped-inside raw (fourOf w) v e in
+    let h = mapped-inside raw (four-of w) v e in
     let g = cond-inside (eqb (length w) 8) (pairs w) (h .0) (h .1) in
     let r = pairs-upper w (h .0) (g .1) in
     subst (Writes four w) (h .2) (four-bytes w (h .0) (eqb-true _ _ (g .0)) (r .0) (r .1))
 value-writes name w v e =
-    let h = mapped-inside called (nameOf w) v e in
+    let h = mapped-inside called (name-of w) v e in
     let g = cond-inside (ltb 0 (length w) && leb (length w) 16) _ (h .0) (h .1) in
-    let k = cond-inside (allLetters w) (Some (w ++ replicate (16 - length w) 0)) (h .0) (g .1) in
+    let k = cond-inside (all-letters w) (Some (w ++ replicate (16 - length w) 0)) (h .0) (g .1) in
     let p = and-parts (ltb 0 (length w)) (leb (length w) 16) (g .0) in
     let q : w ++ replicate (16 - length w) 0 ≡ h .0 = let y = k .1 in cc in
     subst (Writes name w) (ap called q ∙ h .2) (a-name w (ltb-true _ _ (p .0)) (leb-true _ _ (p .1)) (letters-every w (k .0)))
 value-writes direction w v e =
     ⊎-elim
     (λ (t : sameBytes (codes "request") w ≡ true).
-    let q : request ≡ v = let y : directionOf w ≡ Some request = rw t in cc in
+    let q : request ≡ v = let y : direction-of w ≡ Some request = rw t in cc in
     subst (λ x. Writes direction x v) (sameBytes-decides (codes "request") w .0 t) (subst (Writes direction (codes "request")) q a-request))
     (λ (t : sameBytes (codes "request") w ≡ false).
-    let y : directionOf w ≡ cond (sameBytes (codes "answer") w) (Some answer) None = rw t in
+    let y : direction-of w ≡ cond (sameBytes (codes "answer") w) (Some answer) None = rw t in
     let h = cond-inside (sameBytes (codes "answer") w) (Some answer) v (sym y ∙ e) in
     let q : answer ≡ v = let k = h .1 in cc in
     subst (λ x. Writes direction x v) (sameBytes-decides (codes "answer") w .0 (h .0)) (subst (Writes direction (codes "answer")) q an-answer))
     (cases-bool (sameBytes (codes "request") w))
 
-writes-value : {k : Kind} {w : List ℕ} {v : Value} → Writes k w v → valueOf k w ≡ Some v
-writes-value (a-number most n w s l) = let t : leb n most ≡ true = le-leb _ _ l in ap (λ o. mapped num (upTo most o)) (spelt-numeral w n s) ∙ rw t
+writes-value : {k : Kind} {w : List ℕ} {v : Value} → Writes k w v → value-of k w ≡ Some v
+writes-value (a-number most n w s l) = let t : leb n most ≡ true = le-leb _ _ l in ap (λ o. mapped num (up-to most o)) (spelt-numeral w n s) ∙ rw t
 writes-value (four-bytes w bs l e u) = let t : eqb (length w) 8 ≡ true = eq-eqb _ _ l in rw t (ap (mapped raw) (upper-pairs w bs e u))
 writes-value (a-name w p l u) =
     let s : ltb 0 (length w) ≡ true = lt-ltb _ _ p in
     let t : leb (length w) 16 ≡ true = le-leb _ _ l in
-    let a : allLetters w ≡ true = every-letters w u in
+    let a : all-letters w ≡ true = every-letters w u in
     rw (s, t, a)
 writes-value a-request = refl
 writes-value an-answer = refl
@@ -99,21 +99,21 @@ led-inside None p y e = never e
 led-inside (Some v) None y e = never e
 led-inside (Some v) (Some (body vs bs)) y e = (v, vs, bs, refl, refl, cc)
 
-read-follows : (ks : List Kind) (b : Bool) (ws : List (List ℕ)) (y : Body) → bodyOf ks b ws ≡ Some y → Follows ks b ws y
-read-follows [] true ws y e = let h = mapped-inside (body []) (bytesOf ws) y e in subst (Follows [] true ws) (h .2) (the-bytes ws (h .0) (h .1))
+read-follows : (ks : List Kind) (b : Bool) (ws : List (List ℕ)) (y : Body) → body-of ks b ws ≡ Some y → Follows ks b ws y
+read-follows [] true ws y e = let h = mapped-inside (body []) (bytes-of ws) y e in subst (Follows [] true ws) (h .2) (the-bytes ws (h .0) (h .1))
 read-follows [] false [] y e = let q : body [] [] ≡ y = cc in subst (Follows [] false []) q no-more
 read-follows [] false (w ∷ ws) y e = never e
 read-follows (k ∷ ks) b [] y e = never e
 read-follows (k ∷ ks) b (w ∷ ws) y e =
-    let h = led-inside (valueOf k w) (bodyOf ks b ws) y e in
+    let h = led-inside (value-of k w) (body-of ks b ws) y e in
     subst (Follows (k ∷ ks) b (w ∷ ws)) (h .5) (argument k w (h .0) ks b ws (h .1) (h .2) (value-writes k w (h .0) (h .3)) (read-follows ks b ws (body (h .1) (h .2)) (h .4)))
 
-follows-read : {ks : List Kind} {b : Bool} {ws : List (List ℕ)} {y : Body} → Follows ks b ws y → bodyOf ks b ws ≡ Some y
+follows-read : {ks : List Kind} {b : Bool} {ws : List (List ℕ)} {y : Body} → Follows ks b ws y → body-of ks b ws ≡ Some y
 follows-read no-more = refl
 follows-read (the-bytes ws bs e) = ap (mapped (body [])) e
 follows-read (argument k w v ks b ws vs bs p f) = (λ i. led (writes-value p i) (follows-read f i))
 
-pub forms-exact : FormsExact
+pub forms-exact : Forms-exact
 forms-exact ks b ws y = (read-follows ks b ws y, follows-read)
 
 -- the table
@@ -174,23 +174,23 @@ found-none (k ∷ ks) w e g (inr i) q =
     (λ (t : sameBytes (k .keyword) w ≡ false). let y : found (k ∷ ks) w ≡ found ks w = rw t in found-none ks w (sym y ∙ e) g i q)
     (cases-bool (sameBytes (k .keyword) w))
 
-said-inside : (f : Form) (ws : List (List ℕ)) (s : Said) → saidBy f ws ≡ Some s → (y : Body) × Follows (f .arguments) (f .bytes) ws y × (said (f .keyword) y ≡ s)
+said-inside : (f : Form) (ws : List (List ℕ)) (s : Said) → said-by f ws ≡ Some s → (y : Body) × Follows (f .arguments) (f .bytes) ws y × (said (f .keyword) y ≡ s)
 said-inside f ws s e =
-    let h = mapped-inside (said (f .keyword)) (bodyOf (f .arguments) (f .bytes) ws) s e in
+    let h = mapped-inside (said (f .keyword)) (body-of (f .arguments) (f .bytes) ws) s e in
     (h .0, read-follows (f .arguments) (f .bytes) ws (h .0) (h .1), h .2)
 
-said-by : (f : Form) (ws : List (List ℕ)) (y : Body) → Follows (f .arguments) (f .bytes) ws y → saidBy f ws ≡ Some (said (f .keyword) y)
-said-by f ws y h = ap (mapped (said (f .keyword))) (follows-read h)
+follows-said : (f : Form) (ws : List (List ℕ)) (y : Body) → Follows (f .arguments) (f .bytes) ws y → said-by f ws ≡ Some (said (f .keyword) y)
+follows-said f ws y h = ap (mapped (said (f .keyword))) (follows-read h)
 
 -- what a line says
-commanded-says : (line w : List ℕ) (ws : List (List ℕ)) (f : Form) (o : Option Said) (m : Meaning) → Asks m → Parted line (w ∷ ws) → found commands w ≡ Some f → saidBy f ws ≡ o → commanded o ≡ m → Says line m
+commanded-says : (line w : List ℕ) (ws : List (List ℕ)) (f : Form) (o : Option Said) (m : Meaning) → Asks m → Parted line (w ∷ ws) → found commands w ≡ Some f → said-by f ws ≡ o → commanded o ≡ m → Says line m
 commanded-says line w ws f None m a p k e q = let z : unreadable ≡ m = q in absurd (subst Asks (sym z) a)
 commanded-says line w ws f (Some s) m a p k e q =
     let i = found-inside commands w f k in
     let h = said-inside f ws s e in
     subst (Says line) (ap command (h .2) ∙ q) (a-command line f ws (h .0) (i .0) (subst (λ x. Parted line (x ∷ ws)) (sym (i .1)) p) (h .1))
 
-addressed-says : (line w v : List ℕ) (ws : List (List ℕ)) (f : Option Form) (n : Option (List ℕ)) (o : Option Said) (m : Meaning) → Asks m → Parted line (w ∷ v ∷ ws) → found commands w ≡ None → nameOf w ≡ n → found calls v ≡ f → saidByAny f ws ≡ o → addressed n o ≡ m → Says line m
+addressed-says : (line w v : List ℕ) (ws : List (List ℕ)) (f : Option Form) (n : Option (List ℕ)) (o : Option Said) (m : Meaning) → Asks m → Parted line (w ∷ v ∷ ws) → found commands w ≡ None → name-of w ≡ n → found calls v ≡ f → said-by-any f ws ≡ o → addressed n o ≡ m → Says line m
 addressed-says line w v ws f None o m a p k x g e q = let z : unreadable ≡ m = q in absurd (subst Asks (sym z) a)
 addressed-says line w v ws f (Some ls) None m a p k x g e q = let z : unreadable ≡ m = q in absurd (subst Asks (sym z) a)
 addressed-says line w v ws None (Some ls) (Some s) m a p k x g e q = never e
@@ -204,34 +204,34 @@ sentence-says line w ws (Some f) m a p k q = commanded-says line w ws f _ m a p 
 sentence-says line w [] None m a p k q = let z : unreadable ≡ m = q in absurd (subst Asks (sym z) a)
 sentence-says line w (v ∷ ws) None m a p k q = addressed-says line w v ws _ _ _ m a p k refl refl refl q
 
-words-say : (line : List ℕ) (ws : List (List ℕ)) (m : Meaning) → Asks m → Parted line ws → meaningOf ws ≡ m → Says line m
-unfolding meaningOf
+words-say : (line : List ℕ) (ws : List (List ℕ)) (m : Meaning) → Asks m → Parted line ws → meaning-of ws ≡ m → Says line m
+unfolding meaning-of
 words-say line [] m a p q = let z : silence ≡ m = q in absurd (subst Asks (sym z) a)
 words-say line (w ∷ ws) m a p q =
     ⊎-elim
     (λ (t : eqb (getD w 0 0) 35 ≡ true). let z : silence ≡ m = sym (rw t) ∙ q in absurd (subst Asks (sym z) a))
-    (λ (t : eqb (getD w 0 0) 35 ≡ false). let y : meaningOf (w ∷ ws) ≡ sentence (found commands w) w ws = rw t in sentence-says line w ws _ m a p refl (sym y ∙ q))
+    (λ (t : eqb (getD w 0 0) 35 ≡ false). let y : meaning-of (w ∷ ws) ≡ sentence (found commands w) w ws = rw t in sentence-says line w ws _ m a p refl (sym y ∙ q))
     (cases-bool (eqb (getD w 0 0) 35))
 
 first-letter : {w : List ℕ} {v : Value} → Writes name w v → eqb (getD w 0 0) 35 ≡ false
 first-letter (a-name [] p l u) = absurd (omega arith)
 first-letter (a-name (b ∷ w) p l u) = ne-eqb _ _ (λ e. omega (arith, u .0 .0))
 
-name-of : (w ls : List ℕ) → Writes name w (called ls) → nameOf w ≡ Some ls
-name-of w ls h = let i = mapped-inside called (nameOf w) (called ls) (writes-value h) in let q : i .0 ≡ ls = let y = i .2 in cc in i .1 ∙ ap Some q
+writes-name : (w ls : List ℕ) → Writes name w (called ls) → name-of w ≡ Some ls
+writes-name w ls h = let i = mapped-inside called (name-of w) (called ls) (writes-value h) in let q : i .0 ≡ ls = let y = i .2 in cc in i .1 ∙ ap Some q
 
-said-lines : {line : List ℕ} {m : Meaning} → Says line m → meaningOf (words line) ≡ m
-unfolding meaningOf
+said-lines : {line : List ℕ} {m : Meaning} → Says line m → meaning-of (words line) ≡ m
+unfolding meaning-of
 said-lines (a-command line f ws y i p h) =
     let c = command-found f i in
     let k : found commands (f .keyword) ≡ Some f = c .0 in
     let t : eqb (getD (f .keyword) 0 0) 35 ≡ false = c .1 in
-    ap meaningOf (words-exact line (f .keyword ∷ ws) .1 p) ∙ rw (t, k) (ap commanded (said-by f ws y h))
+    ap meaning-of (words-exact line (f .keyword ∷ ws) .1 p) ∙ rw (t, k) (ap commanded (follows-said f ws y h))
 said-lines (a-call line w ls f ws y n g i p h) =
     let k : found commands w ≡ None = not-found commands w g in
     let t : eqb (getD w 0 0) 35 ≡ false = first-letter n in
     let c : found calls (f .keyword) ≡ Some f = call-found f i in
-    ap meaningOf (words-exact line (w ∷ f .keyword ∷ ws) .1 p) ∙ rw (t, k) ((λ j. addressed (name-of w ls n j) (saidByAny (c j) ws)) ∙ ap (addressed (Some ls)) (said-by f ws y h))
+    ap meaning-of (words-exact line (w ∷ f .keyword ∷ ws) .1 p) ∙ rw (t, k) ((λ j. addressed (writes-name w ls n j) (said-by-any (c j) ws)) ∙ ap (addressed (Some ls)) (follows-said f ws y h))
 
-pub lines-exact : LinesExact
+pub lines-exact : Lines-exact
 lines-exact line m = (λ a e. words-say line (words line) m a (words-exact line (words line) .0 refl) e, said-lines)

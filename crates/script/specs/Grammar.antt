@@ -9,9 +9,9 @@ use Rattle.std.specs.Options.{mapped}
 use Rattle.std.specs.shelf.Text.{sameBytes}
 use Rattle.std.specs.declared.option.Option.{Option}
 use Rattle.std.specs.declared.option.Option.the-variants.{Some, None}
-use Rattle.tokens.specs.Numerals.{numeral, upTo}
-use Rattle.tokens.specs.Bytes.{bytesOf, fourOf}
-use Rattle.tokens.specs.Names.{nameOf}
+use Rattle.tokens.specs.Numerals.{numeral, up-to}
+use Rattle.tokens.specs.Bytes.{bytes-of, four-of}
+use Rattle.tokens.specs.Names.{name-of}
 
 -- what an argument may be: a number up to a bound, four bytes, a name, or `request` or `answer`
 pub data Kind : Type 0 where
@@ -125,15 +125,15 @@ abbrev pub calls : List Form
 calls = enrol ∷ strike ∷ ask ∷ switch ∷ wire ∷ fetch ∷ hear ∷ giveup ∷ told ∷ silent ∷ save ∷ load ∷ []
 
 -- `request` or `answer`
-abbrev pub directionOf : List ℕ → Option Value
-directionOf w = cond (sameBytes (codes "request") w) (Some request) (cond (sameBytes (codes "answer") w) (Some answer) None)
+abbrev pub direction-of : List ℕ → Option Value
+direction-of w = cond (sameBytes (codes "request") w) (Some request) (cond (sameBytes (codes "answer") w) (Some answer) None)
 
 -- what a word is, read as an argument of this kind
-abbrev pub valueOf : Kind → List ℕ → Option Value
-valueOf (number most) w = mapped num (upTo most (numeral w))
-valueOf four w = mapped raw (fourOf w)
-valueOf name w = mapped called (nameOf w)
-valueOf direction w = directionOf w
+abbrev pub value-of : Kind → List ℕ → Option Value
+value-of (number most) w = mapped num (up-to most (numeral w))
+value-of four w = mapped raw (four-of w)
+value-of name w = mapped called (name-of w)
+value-of direction w = direction-of w
 
 -- an argument before the rest
 abbrev pub led : Option Value → Option Body → Option Body
@@ -143,28 +143,28 @@ led (Some v) (Some (body vs bs)) = Some (body (v ∷ vs) bs)
 
 -- behind the arguments stand the bytes, where bytes follow, and else no word
 abbrev pub closing : Bool → List (List ℕ) → Option Body
-closing true ws = mapped (body []) (bytesOf ws)
+closing true ws = mapped (body []) (bytes-of ws)
 closing false [] = Some (body [] [])
 closing false (w ∷ ws) = None
 
 -- one word for each argument
-abbrev pub bodyOf : List Kind → Bool → List (List ℕ) → Option Body
-bodyOf [] b ws = closing b ws
-bodyOf (k ∷ ks) b [] = None
-bodyOf (k ∷ ks) b (w ∷ ws) = led (valueOf k w) (bodyOf ks b ws)
+abbrev pub body-of : List Kind → Bool → List (List ℕ) → Option Body
+body-of [] b ws = closing b ws
+body-of (k ∷ ks) b [] = None
+body-of (k ∷ ks) b (w ∷ ws) = led (value-of k w) (body-of ks b ws)
 
 -- words behind a keyword, read by its form
-abbrev pub saidBy : Form → List (List ℕ) → Option Said
-saidBy f ws = mapped (said (f .keyword)) (bodyOf (f .arguments) (f .bytes) ws)
+abbrev pub said-by : Form → List (List ℕ) → Option Said
+said-by f ws = mapped (said (f .keyword)) (body-of (f .arguments) (f .bytes) ws)
 
 -- the form of a keyword
 abbrev pub found : List Form → List ℕ → Option Form
 found [] w = None
 found (f ∷ fs) w = cond (sameBytes (f .keyword) w) (Some f) (found fs w)
 
-abbrev pub saidByAny : Option Form → List (List ℕ) → Option Said
-saidByAny None ws = None
-saidByAny (Some f) ws = saidBy f ws
+abbrev pub said-by-any : Option Form → List (List ℕ) → Option Said
+said-by-any None ws = None
+said-by-any (Some f) ws = said-by f ws
 
 -- a name with what is said to it
 abbrev pub addressed : Option (List ℕ) → Option Said → Meaning
@@ -175,7 +175,7 @@ addressed (Some n) (Some s) = call n s
 -- a name, the keyword of a call, and its words
 abbrev pub calling : List ℕ → List (List ℕ) → Meaning
 calling w [] = unreadable
-calling w (v ∷ ws) = addressed (nameOf w) (saidByAny (found calls v) ws)
+calling w (v ∷ ws) = addressed (name-of w) (said-by-any (found calls v) ws)
 
 abbrev pub commanded : Option Said → Meaning
 commanded None = unreadable
@@ -183,10 +183,10 @@ commanded (Some s) = command s
 
 -- the first word is the keyword of a command, or a name
 abbrev pub sentence : Option Form → List ℕ → List (List ℕ) → Meaning
-sentence (Some f) w ws = commanded (saidBy f ws)
+sentence (Some f) w ws = commanded (said-by f ws)
 sentence None w ws = calling w ws
 
 -- what the words of a line mean; `#` begins a remark
-unfoldable pub meaningOf : List (List ℕ) → Meaning
-meaningOf [] = silence
-meaningOf (w ∷ ws) = cond (eqb (getD w 0 0) 35) silence (sentence (found commands w) w ws)
+unfoldable pub meaning-of : List (List ℕ) → Meaning
+meaning-of [] = silence
+meaning-of (w ∷ ws) = cond (eqb (getD w 0 0) 35) silence (sentence (found commands w) w ws)

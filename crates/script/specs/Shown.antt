@@ -18,67 +18,67 @@ use Rattle.script.specs.declared.reading.Verb.{Verb}
 use Rattle.script.specs.declared.reading.Verb.the-variants as verb
 use Rattle.script.specs.declared.reading.Keyword.{Keyword}
 use Rattle.script.specs.declared.reading.Keyword.the-variants as key
-use Rattle.tokens.specs.Names.{lettersOf}
+use Rattle.tokens.specs.Names.{letters-of}
 use Rattle.script.specs.Grammar as grammar
 use Rattle.script.specs.Grammar.{Form, Value, Body, Said, Meaning, num, raw, called, request, answer, body, said, silence, unreadable, command, call}
 
-abbrev pub directionShown : Direction → Value
-directionShown Request = request
-directionShown Answer = answer
+abbrev pub direction-shown : Direction → Value
+direction-shown Request = request
+direction-shown Answer = answer
 
 -- a call: its keyword, arguments and bytes
-abbrev pub callShown : Call → Said
-callShown (Enrol meter) = said (codes "enrol") (body (num meter ∷ []) [])
-callShown (Strike meter) = said (codes "strike") (body (num meter ∷ []) [])
-callShown (Ask meter c selector password scratch) = said (codes "ask") (body (num meter ∷ num c ∷ num selector ∷ raw password ∷ num scratch ∷ []) [])
-callShown (Switch meter relay position password scratch) = said (codes "switch") (body (num meter ∷ num relay ∷ num position ∷ raw password ∷ num scratch ∷ []) [])
-callShown (Wire bytes) = said (codes "wire") (body [] (vec-items bytes))
-callShown Fetch = said (codes "fetch") (body [] [])
-callShown Hear = said (codes "hear") (body [] [])
-callShown GiveUp = said (codes "giveup") (body [] [])
-callShown (Told meter slot buffer) = said (codes "told") (body (num meter ∷ num slot ∷ num buffer ∷ []) [])
-callShown (Silent slot list) = said (codes "silent") (body (num slot ∷ num list ∷ []) [])
-callShown (Save buffer) = said (codes "save") (body (num buffer ∷ []) [])
-callShown (Load bytes) = said (codes "load") (body [] (vec-items bytes))
+abbrev pub call-shown : Call → Said
+call-shown (Enrol meter) = said (codes "enrol") (body (num meter ∷ []) [])
+call-shown (Strike meter) = said (codes "strike") (body (num meter ∷ []) [])
+call-shown (Ask meter c selector password scratch) = said (codes "ask") (body (num meter ∷ num c ∷ num selector ∷ raw password ∷ num scratch ∷ []) [])
+call-shown (Switch meter relay position password scratch) = said (codes "switch") (body (num meter ∷ num relay ∷ num position ∷ raw password ∷ num scratch ∷ []) [])
+call-shown (Wire bytes) = said (codes "wire") (body [] (vec-items bytes))
+call-shown Fetch = said (codes "fetch") (body [] [])
+call-shown Hear = said (codes "hear") (body [] [])
+call-shown GiveUp = said (codes "giveup") (body [] [])
+call-shown (Told meter slot buffer) = said (codes "told") (body (num meter ∷ num slot ∷ num buffer ∷ []) [])
+call-shown (Silent slot list) = said (codes "silent") (body (num slot ∷ num list ∷ []) [])
+call-shown (Save buffer) = said (codes "save") (body (num buffer ∷ []) [])
+call-shown (Load bytes) = said (codes "load") (body [] (vec-items bytes))
 
 -- a command: its keyword, arguments and bytes, behind a name where it is a call
-abbrev pub commandShown : Command → Meaning
-commandShown (Post n meters readings) = command (said (codes "post") (body (called (lettersOf n) ∷ num meters ∷ num readings ∷ []) []))
-commandShown (Pack d destination source c f buffer bytes) = command (said (codes "pack") (body (directionShown d ∷ num destination ∷ num source ∷ num c ∷ raw f ∷ num buffer ∷ []) (vec-items bytes)))
-commandShown (Unpack buffer bytes) = command (said (codes "unpack") (body (num buffer ∷ []) (vec-items bytes)))
-commandShown (Look bytes) = command (said (codes "look") (body [] (vec-items bytes)))
-commandShown (Same n m) = command (said (codes "same") (body (called (lettersOf n) ∷ called (lettersOf m) ∷ []) []))
-commandShown (ToName n c) = call (lettersOf n) (callShown c)
+abbrev pub command-shown : Command → Meaning
+command-shown (Post n meters readings) = command (said (codes "post") (body (called (letters-of n) ∷ num meters ∷ num readings ∷ []) []))
+command-shown (Pack d destination source c f buffer bytes) = command (said (codes "pack") (body (direction-shown d ∷ num destination ∷ num source ∷ num c ∷ raw f ∷ num buffer ∷ []) (vec-items bytes)))
+command-shown (Unpack buffer bytes) = command (said (codes "unpack") (body (num buffer ∷ []) (vec-items bytes)))
+command-shown (Look bytes) = command (said (codes "look") (body [] (vec-items bytes)))
+command-shown (Same n m) = command (said (codes "same") (body (called (letters-of n) ∷ called (letters-of m) ∷ []) []))
+command-shown (ToName n c) = call (letters-of n) (call-shown c)
 
 -- a line that is read, or not
 abbrev pub answered : Option Command → Meaning
 answered None = unreadable
-answered (Some c) = commandShown c
+answered (Some c) = command-shown c
 
-abbrev pub lineShown : Line → Meaning
-lineShown Nothing = silence
-lineShown Unreadable = unreadable
-lineShown (Asks c) = commandShown c
+abbrev pub line-shown : Line → Meaning
+line-shown Nothing = silence
+line-shown Unreadable = unreadable
+line-shown (Asks c) = command-shown c
 
 -- the form of each keyword that follows a name
-abbrev pub verbForm : Verb → Form
-verbForm verb.Enrol = grammar.enrol
-verbForm verb.Strike = grammar.strike
-verbForm verb.Ask = grammar.ask
-verbForm verb.Switch = grammar.switch
-verbForm verb.Wire = grammar.wire
-verbForm verb.Fetch = grammar.fetch
-verbForm verb.Hear = grammar.hear
-verbForm verb.GiveUp = grammar.giveup
-verbForm verb.Told = grammar.told
-verbForm verb.Silent = grammar.silent
-verbForm verb.Save = grammar.save
-verbForm verb.Load = grammar.load
+abbrev pub verb-form : Verb → Form
+verb-form verb.Enrol = grammar.enrol
+verb-form verb.Strike = grammar.strike
+verb-form verb.Ask = grammar.ask
+verb-form verb.Switch = grammar.switch
+verb-form verb.Wire = grammar.wire
+verb-form verb.Fetch = grammar.fetch
+verb-form verb.Hear = grammar.hear
+verb-form verb.GiveUp = grammar.giveup
+verb-form verb.Told = grammar.told
+verb-form verb.Silent = grammar.silent
+verb-form verb.Save = grammar.save
+verb-form verb.Load = grammar.load
 
 -- and of each that begins a line
-abbrev pub keywordForm : Keyword → Form
-keywordForm key.Post = grammar.post
-keywordForm key.Pack = grammar.pack
-keywordForm key.Unpack = grammar.unpack
-keywordForm key.Look = grammar.look
-keywordForm key.Same = grammar.same
+abbrev pub keyword-form : Keyword → Form
+keyword-form key.Post = grammar.post
+keyword-form key.Pack = grammar.pack
+keyword-form key.Unpack = grammar.unpack
+keyword-form key.Look = grammar.look
+keyword-form key.Same = grammar.same

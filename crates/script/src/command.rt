@@ -1,15 +1,15 @@
-// What a line of a script may ask for.
+//! What a line of a script may ask for.
 
 use tokens::Name;
 
-// Which way a frame goes.
+/// Which way a frame goes.
 #[derive(Clone, Copy)]
 pub enum Direction {
     Request,
     Answer,
 }
 
-// A call on the post of a name.
+/// A call on the post of a name.
 #[derive(Drop)]
 pub enum Call {
     Enrol {
@@ -88,7 +88,7 @@ pub enum Command {
     },
 }
 
-// What a line says.
+/// What a line says.
 #[derive(Drop)]
 pub enum Line {
     Nothing,

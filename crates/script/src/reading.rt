@@ -1,4 +1,5 @@
-// The words of a line, read into a command.
+//! The words of a line, read into a command.
+
 ghost use mathlib.Core.Path.{_≡_};
 ghost use mathlib.Core.Bool.{true, false};
 ghost use mathlib.Core.List.{List, [], _∷_, map};
@@ -6,12 +7,12 @@ ghost use Prim.Native.Nat.{ℕ, _≤_};
 ghost use Rattle.std.specs.Options.{mapped};
 ghost use Rattle.std.specs.Vec.{made};
 ghost use Rattle.std.specs.shelf.Text.{sameBytes};
-ghost use Rattle.script.specs.Grammar.{Kind, number, four, num, raw, body, bodyOf, saidBy, found, calls, commands, directionOf, enrol, strike, ask, switch, wire, told, silent, save, load, post, pack, unpack, look, same, direction, commanded, calling, sentence, meaningOf};
-ghost use Rattle.tokens.specs.Laws.{WordsExact, NumeralsExact, DecimalBack, HexBack, PairsExact, BytesBack};
-ghost use Rattle.tokens.specs.Numerals.{numeral, upTo};
-ghost use Rattle.script.specs.Shown.{verbForm, keywordForm, directionShown, callShown, answered, lineShown};
-ghost use Rattle.script.specs.Spells.{FormsExact, LinesExact};
-ghost use Rattle.tokens.specs.Words.{words as wordsOf};
+ghost use Rattle.script.specs.Grammar.{Kind, number, four, num, raw, body, body-of, said-by, found, calls, commands, direction-of, enrol, strike, ask, switch, wire, told, silent, save, load, post, pack, unpack, look, same, direction, commanded, calling, sentence, meaning-of};
+ghost use Rattle.tokens.specs.Laws.{Words-exact, Numerals-exact, Decimal-back, Hex-back, Pairs-exact, Bytes-back};
+ghost use Rattle.tokens.specs.Numerals.{numeral, up-to};
+ghost use Rattle.script.specs.Shown.{verb-form, keyword-form, direction-shown, call-shown, answered, line-shown};
+ghost use Rattle.script.specs.Spells.{Forms-exact, Lines-exact};
+ghost use Rattle.tokens.specs.Words.{words as words-of};
 ghost use lib.Dec.{eqb};
 ghost use lib.ListN.{getD};
 use crate::command::Call;
@@ -26,7 +27,7 @@ use tokens::read_name;
 use tokens::read_number;
 use tokens::split_words;
 
-// The keywords that follow a name.
+/// The keywords that follow a name.
 #[derive(Clone, Copy)]
 pub enum Verb {
     Enrol,
@@ -43,7 +44,7 @@ pub enum Verb {
     Load,
 }
 
-// The keywords that begin a line.
+/// The keywords that begin a line.
 #[derive(Clone, Copy)]
 pub enum Keyword {
     Post,
@@ -53,7 +54,7 @@ pub enum Keyword {
     Same,
 }
 
-// Whether the word is the keyword.
+/// Whether the word is the keyword.
 fn is(word: &[u8], keyword: &[u8]) -> bool
     ensures { λ r. ⌜ r ≡ sameBytes (now (keyword .entry)) (now (word .entry)) ⌝ }
 {
@@ -61,7 +62,7 @@ fn is(word: &[u8], keyword: &[u8]) -> bool
 }
 
 fn read_keyword(word: &[u8]) -> Option<Keyword>
-    ensures { λ r. ⌜ mapped keywordForm r ≡ found commands (now (word .entry)) ⌝ }
+    ensures { λ r. ⌜ mapped keyword-form r ≡ found commands (now (word .entry)) ⌝ }
 {
     if is(word, b"post") {
         Some(Keyword::Post)
@@ -79,7 +80,7 @@ fn read_keyword(word: &[u8]) -> Option<Keyword>
 }
 
 fn read_verb(word: &[u8]) -> Option<Verb>
-    ensures { λ r. ⌜ mapped verbForm r ≡ found calls (now (word .entry)) ⌝ }
+    ensures { λ r. ⌜ mapped verb-form r ≡ found calls (now (word .entry)) ⌝ }
 {
     if is(word, b"enrol") {
         Some(Verb::Enrol)
@@ -111,7 +112,7 @@ fn read_verb(word: &[u8]) -> Option<Verb>
 }
 
 fn read_direction(word: &[u8]) -> Option<Direction>
-    ensures { λ r. ⌜ mapped directionShown r ≡ directionOf (now (word .entry)) ⌝ }
+    ensures { λ r. ⌜ mapped direction-shown r ≡ direction-of (now (word .entry)) ⌝ }
 {
     if is(word, b"request") {
         Some(Direction::Request)
@@ -122,23 +123,23 @@ fn read_direction(word: &[u8]) -> Option<Direction>
     }
 }
 
-// A number up to `most`.
+/// A number up to `most`.
 fn read_short(word: &[u8], most: u16) -> Option<u16>
-    ensures { λ r. ⌜ r ≡ upTo most (numeral (now (word .entry))) ⌝ }
+    ensures { λ r. ⌜ r ≡ up-to most (numeral (now (word .entry))) ⌝ }
 {
     Some(read_number(word, most as u32)? as u16)
 }
 
-// A number of one byte.
+/// A number of one byte.
 fn read_byte(word: &[u8]) -> Option<u8>
-    ensures { λ r. ⌜ r ≡ upTo 255 (numeral (now (word .entry))) ⌝ }
+    ensures { λ r. ⌜ r ≡ up-to 255 (numeral (now (word .entry))) ⌝ }
 {
     Some(read_number(word, 255)? as u8)
 }
 
-// A meter, and no more.
+/// A meter, and no more.
 fn read_meter(args: &[&[u8]]) -> Option<u16>
-    ensures { λ r. ⌜ mapped (λ m. body (num m ∷ []) []) r ≡ bodyOf (number 65535 ∷ []) false (map (λ w. w .now) (now (args .entry))) ⌝ }
+    ensures { λ r. ⌜ mapped (λ m. body (num m ∷ []) []) r ≡ body-of (number 65535 ∷ []) false (map (λ w. w .now) (now (args .entry))) ⌝ }
 {
     let [meter] = args else {
         return None;
@@ -146,9 +147,9 @@ fn read_meter(args: &[&[u8]]) -> Option<u16>
     read_short(meter, 65535)
 }
 
-// A meter, two numbers of one byte, a password and the length of the scratch.
+/// A meter, two numbers of one byte, a password and the length of the scratch.
 fn read_question(args: &[&[u8]]) -> Option<(u16, u8, u8, [u8; 4], u16)>
-    ensures { λ r. ⌜ mapped (λ q. body (num (q .0) ∷ num (q .1) ∷ num (q .2) ∷ raw (q .3) ∷ num (q .4) ∷ []) []) r ≡ bodyOf (number 65535 ∷ number 255 ∷ number 255 ∷ four ∷ number 256 ∷ []) false (map (λ w. w .now) (now (args .entry))) ⌝ }
+    ensures { λ r. ⌜ mapped (λ q. body (num (q .0) ∷ num (q .1) ∷ num (q .2) ∷ raw (q .3) ∷ num (q .4) ∷ []) []) r ≡ body-of (number 65535 ∷ number 255 ∷ number 255 ∷ four ∷ number 256 ∷ []) false (map (λ w. w .now) (now (args .entry))) ⌝ }
 {
     let [meter, first, second, password, scratch] = args else {
         return None;
@@ -162,7 +163,7 @@ fn read_question(args: &[&[u8]]) -> Option<(u16, u8, u8, [u8; 4], u16)>
 }
 
 fn read_told(args: &[&[u8]]) -> Option<Call>
-    ensures { λ r. ⌜ mapped callShown r ≡ saidBy told (map (λ w. w .now) (now (args .entry))) ⌝ }
+    ensures { λ r. ⌜ mapped call-shown r ≡ said-by told (map (λ w. w .now) (now (args .entry))) ⌝ }
 {
     let [meter, slot, buffer] = args else {
         return None;
@@ -178,7 +179,7 @@ fn read_told(args: &[&[u8]]) -> Option<Call>
 }
 
 fn read_silent(args: &[&[u8]]) -> Option<Call>
-    ensures { λ r. ⌜ mapped callShown r ≡ saidBy silent (map (λ w. w .now) (now (args .entry))) ⌝ }
+    ensures { λ r. ⌜ mapped call-shown r ≡ said-by silent (map (λ w. w .now) (now (args .entry))) ⌝ }
 {
     let [slot, list] = args else {
         return None;
@@ -189,7 +190,7 @@ fn read_silent(args: &[&[u8]]) -> Option<Call>
 }
 
 fn read_save(args: &[&[u8]]) -> Option<Call>
-    ensures { λ r. ⌜ mapped callShown r ≡ saidBy save (map (λ w. w .now) (now (args .entry))) ⌝ }
+    ensures { λ r. ⌜ mapped call-shown r ≡ said-by save (map (λ w. w .now) (now (args .entry))) ⌝ }
 {
     let [buffer] = args else {
         return None;
@@ -199,7 +200,7 @@ fn read_save(args: &[&[u8]]) -> Option<Call>
 }
 
 fn read_ask(args: &[&[u8]]) -> Option<Call>
-    ensures { λ r. ⌜ mapped callShown r ≡ saidBy ask (map (λ w. w .now) (now (args .entry))) ⌝ }
+    ensures { λ r. ⌜ mapped call-shown r ≡ said-by ask (map (λ w. w .now) (now (args .entry))) ⌝ }
 {
     let (meter, command, selector, password, scratch) = read_question(args)?;
     Some(Call::Ask {
@@ -212,7 +213,7 @@ fn read_ask(args: &[&[u8]]) -> Option<Call>
 }
 
 fn read_switch(args: &[&[u8]]) -> Option<Call>
-    ensures { λ r. ⌜ mapped callShown r ≡ saidBy switch (map (λ w. w .now) (now (args .entry))) ⌝ }
+    ensures { λ r. ⌜ mapped call-shown r ≡ said-by switch (map (λ w. w .now) (now (args .entry))) ⌝ }
 {
     let (meter, relay, position, password, scratch) = read_question(args)?;
     Some(Call::Switch {
@@ -225,28 +226,28 @@ fn read_switch(args: &[&[u8]]) -> Option<Call>
 }
 
 fn read_enrol(args: &[&[u8]]) -> Option<Call>
-    ensures { λ r. ⌜ mapped callShown r ≡ saidBy enrol (map (λ w. w .now) (now (args .entry))) ⌝ }
+    ensures { λ r. ⌜ mapped call-shown r ≡ said-by enrol (map (λ w. w .now) (now (args .entry))) ⌝ }
 {
     let meter = read_meter(args)?;
     Some(Call::Enrol { meter })
 }
 
 fn read_strike(args: &[&[u8]]) -> Option<Call>
-    ensures { λ r. ⌜ mapped callShown r ≡ saidBy strike (map (λ w. w .now) (now (args .entry))) ⌝ }
+    ensures { λ r. ⌜ mapped call-shown r ≡ said-by strike (map (λ w. w .now) (now (args .entry))) ⌝ }
 {
     let meter = read_meter(args)?;
     Some(Call::Strike { meter })
 }
 
-// A call that takes no words.
+/// A call that takes no words.
 fn alone(call: Call, args: &[&[u8]]) -> Option<Call>
-    ensures { λ r. ⌜ mapped callShown r ≡ mapped (λ _. callShown call) (bodyOf [] false (map (λ w. w .now) (now (args .entry)))) ⌝ }
+    ensures { λ r. ⌜ mapped call-shown r ≡ mapped (λ _. call-shown call) (body-of [] false (map (λ w. w .now) (now (args .entry)))) ⌝ }
 {
     if args.is_empty() { Some(call) } else { None }
 }
 
 fn read_wire(heap: Global, args: &[&[u8]]) -> Result<Option<Call>, AllocError>
-    ensures { λ r. ⌜ made r (λ o. mapped callShown o ≡ saidBy wire (map (λ w. w .now) (now (args .entry)))) ⌝ }
+    ensures { λ r. ⌜ made r (λ o. mapped call-shown o ≡ said-by wire (map (λ w. w .now) (now (args .entry)))) ⌝ }
 {
     match read_bytes(heap, args)? {
         Some(bytes) => Ok(Some(Call::Wire { bytes })),
@@ -255,7 +256,7 @@ fn read_wire(heap: Global, args: &[&[u8]]) -> Result<Option<Call>, AllocError>
 }
 
 fn read_load(heap: Global, args: &[&[u8]]) -> Result<Option<Call>, AllocError>
-    ensures { λ r. ⌜ made r (λ o. mapped callShown o ≡ saidBy load (map (λ w. w .now) (now (args .entry)))) ⌝ }
+    ensures { λ r. ⌜ made r (λ o. mapped call-shown o ≡ said-by load (map (λ w. w .now) (now (args .entry)))) ⌝ }
 {
     match read_bytes(heap, args)? {
         Some(bytes) => Ok(Some(Call::Load { bytes })),
@@ -263,9 +264,9 @@ fn read_load(heap: Global, args: &[&[u8]]) -> Result<Option<Call>, AllocError>
     }
 }
 
-// The call that the verb and its words make.
+/// The call that the verb and its words make.
 fn read_call(heap: Global, verb: Verb, args: &[&[u8]]) -> Result<Option<Call>, AllocError>
-    ensures { λ r. ⌜ made r (λ o. mapped callShown o ≡ saidBy (verbForm verb) (map (λ w. w .now) (now (args .entry)))) ⌝ }
+    ensures { λ r. ⌜ made r (λ o. mapped call-shown o ≡ said-by (verb-form verb) (map (λ w. w .now) (now (args .entry)))) ⌝ }
 {
     match verb {
         Verb::Enrol => Ok(read_enrol(args)),
@@ -284,7 +285,7 @@ fn read_call(heap: Global, verb: Verb, args: &[&[u8]]) -> Result<Option<Call>, A
 }
 
 fn read_post(args: &[&[u8]]) -> Option<Command>
-    ensures { λ r. ⌜ answered r ≡ commanded (saidBy post (map (λ w. w .now) (now (args .entry)))) ⌝ }
+    ensures { λ r. ⌜ answered r ≡ commanded (said-by post (map (λ w. w .now) (now (args .entry)))) ⌝ }
 {
     let [name, meters, readings] = args else {
         return None;
@@ -300,7 +301,7 @@ fn read_post(args: &[&[u8]]) -> Option<Command>
 }
 
 fn read_same(args: &[&[u8]]) -> Option<Command>
-    ensures { λ r. ⌜ answered r ≡ commanded (saidBy same (map (λ w. w .now) (now (args .entry)))) ⌝ }
+    ensures { λ r. ⌜ answered r ≡ commanded (said-by same (map (λ w. w .now) (now (args .entry)))) ⌝ }
 {
     let [first, second] = args else {
         return None;
@@ -311,7 +312,7 @@ fn read_same(args: &[&[u8]]) -> Option<Command>
 }
 
 fn read_look(heap: Global, args: &[&[u8]]) -> Result<Option<Command>, AllocError>
-    ensures { λ r. ⌜ made r (λ o. answered o ≡ commanded (saidBy look (map (λ w. w .now) (now (args .entry))))) ⌝ }
+    ensures { λ r. ⌜ made r (λ o. answered o ≡ commanded (said-by look (map (λ w. w .now) (now (args .entry))))) ⌝ }
 {
     match read_bytes(heap, args)? {
         Some(bytes) => Ok(Some(Command::Look { bytes })),
@@ -320,7 +321,7 @@ fn read_look(heap: Global, args: &[&[u8]]) -> Result<Option<Command>, AllocError
 }
 
 fn read_unpack(heap: Global, args: &[&[u8]]) -> Result<Option<Command>, AllocError>
-    ensures { λ r. ⌜ made r (λ o. answered o ≡ commanded (saidBy unpack (map (λ w. w .now) (now (args .entry))))) ⌝ }
+    ensures { λ r. ⌜ made r (λ o. answered o ≡ commanded (said-by unpack (map (λ w. w .now) (now (args .entry))))) ⌝ }
 {
     let [buffer, bytes @ ..] = args else {
         return Ok(None);
@@ -334,9 +335,9 @@ fn read_unpack(heap: Global, args: &[&[u8]]) -> Result<Option<Command>, AllocErr
     }
 }
 
-// The words of a frame before its data.
+/// The words of a frame before its data.
 fn read_frame(args: &[&[u8]]) -> Option<(Direction, u16, u16, u8, [u8; 4], u16)>
-    ensures { λ r. ⌜ mapped (λ f. body (directionShown (f .0) ∷ num (f .1) ∷ num (f .2) ∷ num (f .3) ∷ raw (f .4) ∷ num (f .5) ∷ []) []) r ≡ bodyOf (direction ∷ number 65535 ∷ number 65535 ∷ number 255 ∷ four ∷ number 256 ∷ []) false (map (λ w. w .now) (now (args .entry))) ⌝ }
+    ensures { λ r. ⌜ mapped (λ f. body (direction-shown (f .0) ∷ num (f .1) ∷ num (f .2) ∷ num (f .3) ∷ raw (f .4) ∷ num (f .5) ∷ []) []) r ≡ body-of (direction ∷ number 65535 ∷ number 65535 ∷ number 255 ∷ four ∷ number 256 ∷ []) false (map (λ w. w .now) (now (args .entry))) ⌝ }
 {
     let [direction, destination, source, command, four, buffer] = args else {
         return None;
@@ -351,7 +352,7 @@ fn read_frame(args: &[&[u8]]) -> Option<(Direction, u16, u16, u8, [u8; 4], u16)>
 }
 
 fn read_pack(heap: Global, args: &[&[u8]]) -> Result<Option<Command>, AllocError>
-    ensures { λ r. ⌜ made r (λ o. answered o ≡ commanded (saidBy pack (map (λ w. w .now) (now (args .entry))))) ⌝ }
+    ensures { λ r. ⌜ made r (λ o. answered o ≡ commanded (said-by pack (map (λ w. w .now) (now (args .entry))))) ⌝ }
 {
     if args.len() < 6 {
         return Ok(None);
@@ -375,13 +376,13 @@ fn read_pack(heap: Global, args: &[&[u8]]) -> Result<Option<Command>, AllocError
     }
 }
 
-// The command that the keyword and its words make.
+/// The command that the keyword and its words make.
 fn read_command(
     heap: Global,
     keyword: Keyword,
     args: &[&[u8]],
 ) -> Result<Option<Command>, AllocError>
-    ensures { λ r. ⌜ made r (λ o. answered o ≡ commanded (saidBy (keywordForm keyword) (map (λ w. w .now) (now (args .entry))))) ⌝ }
+    ensures { λ r. ⌜ made r (λ o. answered o ≡ commanded (said-by (keyword-form keyword) (map (λ w. w .now) (now (args .entry))))) ⌝ }
 {
     match keyword {
         Keyword::Post => Ok(read_post(args)),
@@ -392,7 +393,7 @@ fn read_command(
     }
 }
 
-// The call of a name, where the first word is one.
+/// The call of a name, where the first word is one.
 fn read_to_name(heap: Global, first: &[u8], args: &[&[u8]]) -> Result<Option<Command>, AllocError>
     ensures { λ r. ⌜ made r (λ o. answered o ≡ calling (now (first .entry)) (map (λ w. w .now) (now (args .entry)))) ⌝ }
 {
@@ -411,14 +412,14 @@ fn read_to_name(heap: Global, first: &[u8], args: &[&[u8]]) -> Result<Option<Com
     }
 }
 
-// Whether the word begins a remark.
+/// Whether the word begins a remark.
 fn is_remark(word: &[u8]) -> bool
     ensures { λ r. ⌜ r ≡ eqb (getD (now (word .entry)) 0 0) 35 ⌝ }
 {
     !word.is_empty() && word[0] == b'#'
 }
 
-// The first word is the keyword of a command, or a name.
+/// The first word is the keyword of a command, or a name.
 fn read_sentence(heap: Global, first: &[u8], args: &[&[u8]]) -> Result<Option<Command>, AllocError>
     ensures { λ r. ⌜ made r (λ o. answered o ≡ sentence (found commands (now (first .entry))) (now (first .entry)) (map (λ w. w .now) (now (args .entry)))) ⌝ }
 {
@@ -428,9 +429,9 @@ fn read_sentence(heap: Global, first: &[u8], args: &[&[u8]]) -> Result<Option<Co
     }
 }
 
-// What the words of a line say.
+/// What the words of a line say.
 fn read_words(heap: Global, words: &[&[u8]]) -> Result<Line, AllocError>
-    ensures { λ r. ⌜ made r (λ l. lineShown l ≡ meaningOf (map (λ w. w .now) (now (words .entry)))) ⌝ }
+    ensures { λ r. ⌜ made r (λ l. line-shown l ≡ meaning-of (map (λ w. w .now) (now (words .entry)))) ⌝ }
 {
     let [first, args @ ..] = words else {
         return Ok(Line::Nothing);
@@ -444,14 +445,14 @@ fn read_words(heap: Global, words: &[&[u8]]) -> Result<Line, AllocError>
     }
 }
 
-// What a line of a script says; a line has no line end.
+/// What a line of a script says; a line has no line end.
 pub fn read_line(heap: Global, line: &[u8]) -> Result<Line, AllocError>
-    ensures meaning { λ r. ⌜ made r (λ l. lineShown l ≡ meaningOf (wordsOf (now (line .entry)))) ⌝ }
-    ensures lines { λ _. ⌜ LinesExact ⌝ }
-    ensures forms { λ _. ⌜ FormsExact ⌝ }
-    ensures words { λ _. ⌜ WordsExact ⌝ }
-    ensures numerals { λ _. ⌜ NumeralsExact × DecimalBack × HexBack ⌝ }
-    ensures bytes { λ _. ⌜ PairsExact × BytesBack ⌝ }
+    ensures meaning { λ r. ⌜ made r (λ l. line-shown l ≡ meaning-of (words-of (now (line .entry)))) ⌝ }
+    ensures lines { λ _. ⌜ Lines-exact ⌝ }
+    ensures forms { λ _. ⌜ Forms-exact ⌝ }
+    ensures words { λ _. ⌜ Words-exact ⌝ }
+    ensures numerals { λ _. ⌜ Numerals-exact × Decimal-back × Hex-back ⌝ }
+    ensures bytes { λ _. ⌜ Pairs-exact × Bytes-back ⌝ }
 {
     let words = split_words(heap, line)?;
     read_words(heap, words.as_slice())

@@ -1,4 +1,5 @@
-// Lines good and bad, and answers, as tests.
+//! Lines good and bad, and answers, as tests.
+
 #[cfg(test)]
 mod tests {
     use script::Call;

@@ -54,12 +54,12 @@ entries =
     []
 
 -- the words of a number, and none where the table has none
-abbrev pub wordsIn : List Entry → ℕ → List ℕ
-wordsIn [] n = []
-wordsIn (e ∷ es) n = cond (eqb (e .number) n) (e .words) (wordsIn es n)
+abbrev pub words-in : List Entry → ℕ → List ℕ
+words-in [] n = []
+words-in (e ∷ es) n = cond (eqb (e .number) n) (e .words) (words-in es n)
 
 abbrev pub phrase : ℕ → List ℕ
-phrase n = wordsIn entries n
+phrase n = words-in entries n
 
 -- no words are those of an entry
 abbrev pub unlike : List ℕ → List Entry → Bool

@@ -1,9 +1,10 @@
-// The words for people of every refusal and outcome.
+//! The words for people of every refusal and outcome.
+
 ghost use mathlib.Core.Path.{_≡_};
-ghost use Rattle.text.specs.Phrases.{phrase, entries, apart as apartEntries};
+ghost use Rattle.text.specs.Phrases.{phrase, entries, apart as all-apart};
 ghost use mathlib.Core.Bool.{true};
 
-// What a number of a refusal or an outcome says, and nothing of any other number.
+/// What a number of a refusal or an outcome says, and nothing of any other number.
 pub fn words_for(number: u8) -> &'static str
     ensures { λ r. ⌜ now r ≡ phrase number ⌝ }
 {
@@ -46,10 +47,10 @@ pub fn words_for(number: u8) -> &'static str
     }
 }
 
-// What a number of a refusal or an outcome says, and nothing of any other number; no two say the same.
+/// What a number of a refusal or an outcome says, and nothing of any other number; no two say the same.
 pub fn meaning(number: u8) -> &'static str
     ensures words { λ r. ⌜ now r ≡ phrase number ⌝ }
-    ensures apart { λ _. ⌜ apartEntries entries ≡ true ⌝ }
+    ensures apart { λ _. ⌜ all-apart entries ≡ true ⌝ }
 {
     words_for(number)
 }

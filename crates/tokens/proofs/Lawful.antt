@@ -19,10 +19,10 @@ use Rattle.std.proofs.shelf.Lists.{append-assoc, append-nil, take-rest}
 use Rattle.std.proofs.shelf.Tests.{cases-lt, cases-eq, cases-bool}
 use Rattle.std.proofs.shelf.Ways.{tells}
 use Rattle.tokens.specs.Words.{blank, ended, gathered, words}
-use Rattle.tokens.specs.Numerals.{onward, digitsIn, numeral}
-use Rattle.tokens.specs.Bytes.{pair, before, pairs, joinedTo, bytesOf}
-use Rattle.text.specs.Answers.{hexDigit, twoDigits, solidPairs, trailingPairs}
-use Rattle.tokens.specs.Laws.{Spelt, NumeralsExact, DecimalBack, HexBack, BytesBack, PairsExact, Stops, Parted, WordsExact, nothing, gap, word}
+use Rattle.tokens.specs.Numerals.{onward, digits-in, numeral}
+use Rattle.tokens.specs.Bytes.{pair, before, pairs, joined-to, bytes-of}
+use Rattle.text.specs.Answers.{hex-digit, two-digits, solid-pairs, trailing-pairs}
+use Rattle.tokens.specs.Laws.{Spelt, Numerals-exact, Decimal-back, Hex-back, Bytes-back, Pairs-exact, Stops, Parted, Words-exact, nothing, gap, word}
 use Rattle.tokens.proofs.Spelling.{onward-more, onward-none, hex-word, plain-first, plain-second}
 
 -- numerals
@@ -38,15 +38,15 @@ spelt-onward : (base n : ℕ) (ds : List ℕ) → Digits base ds → onward base
 spelt-onward base n [] h = refl
 spelt-onward base n (d ∷ ds) h = onward-more base n d ds (h .0) ∙ spelt-onward base (n * base + digitValue d) ds (h .1)
 
-digits-spelt : (base m : ℕ) (ds : List ℕ) → digitsIn base ds ≡ Some m → Numeral base ds × (m ≡ value base ds)
+digits-spelt : (base m : ℕ) (ds : List ℕ) → digits-in base ds ≡ Some m → Numeral base ds × (m ≡ value base ds)
 digits-spelt base m [] e = let z : _≡_ {A = ℕ} 0 1 = cc in absurd (omega arith)
 digits-spelt base m (d ∷ ds) e = let h = onward-spelt base 0 m (d ∷ ds) e in ((omega arith, h .0), h .1)
 
-spelt-digits : (base : ℕ) (ds : List ℕ) → Numeral base ds → digitsIn base ds ≡ Some (value base ds)
+spelt-digits : (base : ℕ) (ds : List ℕ) → Numeral base ds → digits-in base ds ≡ Some (value base ds)
 spelt-digits base [] h = absurd (omega (arith, h .0))
 spelt-digits base (d ∷ ds) h = spelt-onward base 0 (d ∷ ds) (h .1)
 
-by-ten : (w : List ℕ) (n : ℕ) → numeral w ≡ digitsIn 10 w → numeral w ≡ Some n → Spelt w n
+by-ten : (w : List ℕ) (n : ℕ) → numeral w ≡ digits-in 10 w → numeral w ≡ Some n → Spelt w n
 by-ten w n p e = inl (digits-spelt 10 n w (sym p ∙ e))
 
 pub numeral-spelt : (w : List ℕ) (n : ℕ) → numeral w ≡ Some n → Spelt w n
@@ -56,7 +56,7 @@ numeral-spelt (a ∷ b ∷ ds) n e =
     ⊎-elim
     (λ (p : a ≡ 48). ⊎-elim
     (λ (q : b ≡ 120).
-    let h = digits-spelt 16 n ds (sym (hex-word (a ∷ b ∷ ds) p q ∙ ap (digitsIn 16) (take-rest (a ∷ b ∷ ds) 2)) ∙ e) in
+    let h = digits-spelt 16 n ds (sym (hex-word (a ∷ b ∷ ds) p q ∙ ap (digits-in 16) (take-rest (a ∷ b ∷ ds) 2)) ∙ e) in
     inr (ds, ap (λ x. x ∷ b ∷ ds) p ∙ ap (λ y. 48 ∷ y ∷ ds) q, h .0, h .1))
     (λ (q : b ≡ 120 → ⊥). by-ten (a ∷ b ∷ ds) n (plain-second (a ∷ b ∷ ds) q) e)
     (cases-eq b 120))
@@ -71,65 +71,65 @@ no-x (a ∷ b ∷ ds) h e = let z = subst (λ x. digitValue x < 10) e (h .1 .1 .
 pub spelt-numeral : (w : List ℕ) (n : ℕ) → Spelt w n → numeral w ≡ Some n
 spelt-numeral w n (inl h) = plain-second w (no-x w (h .0)) ∙ spelt-digits 10 w (h .0) ∙ ap Some (sym (h .1))
 spelt-numeral w n (inr (ds, e, h, q)) =
-    ap numeral e ∙ hex-word (48 ∷ 120 ∷ ds) refl refl ∙ ap (digitsIn 16) (take-rest (48 ∷ 120 ∷ ds) 2) ∙ spelt-digits 16 ds h ∙ ap Some (sym q)
+    ap numeral e ∙ hex-word (48 ∷ 120 ∷ ds) refl refl ∙ ap (digits-in 16) (take-rest (48 ∷ 120 ∷ ds) 2) ∙ spelt-digits 16 ds h ∙ ap Some (sym q)
 
-pub numerals-exact : NumeralsExact
+pub numerals-exact : Numerals-exact
 numerals-exact w n = (numeral-spelt w n, spelt-numeral w n)
 
-pub decimal-back : DecimalBack
+pub decimal-back : Decimal-back
 decimal-back n h = let d = decimal-reads n h in spelt-numeral (decimal n) n (inl (d .0, sym (d .1)))
 
 -- digits in upper case
-value-digit : (d : ℕ) → d < 16 → digitValue (hexDigit d) ≡ d
+value-digit : (d : ℕ) → d < 16 → digitValue (hex-digit d) ≡ d
 value-digit d h = ⊎-elim (λ (l : d < 10). grind (arith, tells)) (λ (l : 10 ≤ d). grind (arith, tells)) (cases-lt d 10)
 
-solid-digit : (d : ℕ) → d < 16 → blank (hexDigit d) ≡ false
+solid-digit : (d : ℕ) → d < 16 → blank (hex-digit d) ≡ false
 solid-digit d h = ⊎-elim (λ (l : d < 10). grind (arith, tells)) (λ (l : 10 ≤ d). grind (arith, tells)) (cases-lt d 10)
 
-digits-under : (ds : List ℕ) → Under 16 ds → Digits 16 (map hexDigit ds)
+digits-under : (ds : List ℕ) → Under 16 ds → Digits 16 (map hex-digit ds)
 digits-under [] u = tt
 digits-under (d ∷ ds) u = (rw (value-digit d (u .0)) (u .0), digits-under ds (u .1))
 
-value-under : (n : ℕ) (ds : List ℕ) → Under 16 ds → valueAfter 16 n (map hexDigit ds) ≡ numberAfter 16 n ds
+value-under : (n : ℕ) (ds : List ℕ) → Under 16 ds → valueAfter 16 n (map hex-digit ds) ≡ numberAfter 16 n ds
 value-under n [] u = refl
-value-under n (d ∷ ds) u = ap (λ v. valueAfter 16 (n * 16 + v) (map hexDigit ds)) (value-digit d (u .0)) ∙ value-under (n * 16 + d) ds (u .1)
+value-under n (d ∷ ds) u = ap (λ v. valueAfter 16 (n * 16 + v) (map hex-digit ds)) (value-digit d (u .0)) ∙ value-under (n * 16 + d) ds (u .1)
 
-pub hex-back : HexBack
+pub hex-back : Hex-back
 hex-back [] p u = absurd (omega arith)
 hex-back (d ∷ ds) p u =
-    spelt-numeral (48 ∷ 120 ∷ map hexDigit (d ∷ ds)) (number 16 (d ∷ ds)) (inr (map hexDigit (d ∷ ds), refl, (omega arith, digits-under (d ∷ ds) u), sym (value-under 0 (d ∷ ds) u)))
+    spelt-numeral (48 ∷ 120 ∷ map hex-digit (d ∷ ds)) (number 16 (d ∷ ds)) (inr (map hex-digit (d ∷ ds), refl, (omega arith, digits-under (d ∷ ds) u), sym (value-under 0 (d ∷ ds) u)))
 
 -- bytes
-byte-back : (b : ℕ) → b < 256 → pairs (twoDigits b) ≡ Some (b ∷ [])
+byte-back : (b : ℕ) → b < 256 → pairs (two-digits b) ≡ Some (b ∷ [])
 byte-back b h =
-    let p : digitValue (hexDigit (b / 16)) ≡ b / 16 = value-digit (b / 16) (omega arith) in
-    let q : digitValue (hexDigit (b % 16)) ≡ b % 16 = value-digit (b % 16) (omega arith) in
+    let p : digitValue (hex-digit (b / 16)) ≡ b / 16 = value-digit (b / 16) (omega arith) in
+    let q : digitValue (hex-digit (b % 16)) ≡ b % 16 = value-digit (b % 16) (omega arith) in
     let l : ltb (b / 16) 16 ≡ true = grind (arith, tells) in
     let m : ltb (b % 16) 16 ≡ true = grind (arith, tells) in
     let s : b / 16 * 16 + b % 16 ≡ b = omega arith in
     rw (p, q, l, m, s)
 
-word-of : (b : ℕ) (t : List ℕ) → b < 256 → gathered [] (twoDigits b ++ t) ≡ gathered (twoDigits b) t
+word-of : (b : ℕ) (t : List ℕ) → b < 256 → gathered [] (two-digits b ++ t) ≡ gathered (two-digits b) t
 word-of b t h =
-    let p : blank (hexDigit (b / 16)) ≡ false = solid-digit (b / 16) (omega arith) in
-    let q : blank (hexDigit (b % 16)) ≡ false = solid-digit (b % 16) (omega arith) in
+    let p : blank (hex-digit (b / 16)) ≡ false = solid-digit (b / 16) (omega arith) in
+    let q : blank (hex-digit (b % 16)) ≡ false = solid-digit (b % 16) (omega arith) in
     rw (p, q)
 
-pair-words : (b : ℕ) (bs : List ℕ) → Every (λ x. x < 256) bs → gathered (twoDigits b) (trailingPairs bs) ≡ twoDigits b ∷ map twoDigits bs
+pair-words : (b : ℕ) (bs : List ℕ) → Every (λ x. x < 256) bs → gathered (two-digits b) (trailing-pairs bs) ≡ two-digits b ∷ map two-digits bs
 pair-words b [] u = refl
-pair-words b (x ∷ bs) u = ap (λ ws. twoDigits b ∷ ws) (word-of x (trailingPairs bs) (u .0) ∙ pair-words x bs (u .1))
+pair-words b (x ∷ bs) u = ap (λ ws. two-digits b ∷ ws) (word-of x (trailing-pairs bs) (u .0) ∙ pair-words x bs (u .1))
 
-hex-words : (bs : List ℕ) → Every (λ x. x < 256) bs → words (trailingPairs bs) ≡ map twoDigits bs
+hex-words : (bs : List ℕ) → Every (λ x. x < 256) bs → words (trailing-pairs bs) ≡ map two-digits bs
 unfolding words
 hex-words [] u = refl
-hex-words (b ∷ bs) u = word-of b (trailingPairs bs) (u .0) ∙ pair-words b bs (u .1)
+hex-words (b ∷ bs) u = word-of b (trailing-pairs bs) (u .0) ∙ pair-words b bs (u .1)
 
-bytes-of-words : (bs : List ℕ) → Every (λ x. x < 256) bs → bytesOf (map twoDigits bs) ≡ Some bs
+bytes-of-words : (bs : List ℕ) → Every (λ x. x < 256) bs → bytes-of (map two-digits bs) ≡ Some bs
 bytes-of-words [] u = refl
-bytes-of-words (b ∷ bs) u = (λ i. joinedTo (byte-back b (u .0) i) (bytes-of-words bs (u .1) i))
+bytes-of-words (b ∷ bs) u = (λ i. joined-to (byte-back b (u .0) i) (bytes-of-words bs (u .1) i))
 
-pub bytes-back : BytesBack
-bytes-back bs u = ap bytesOf (hex-words bs u) ∙ bytes-of-words bs u
+pub bytes-back : Bytes-back
+bytes-back bs u = ap bytes-of (hex-words bs u) ∙ bytes-of-words bs u
 
 -- words
 blank-cases : (b : ℕ) → (blank b ≡ true) ⊎ (blank b ≡ false)
@@ -171,19 +171,19 @@ words-parted (a ∷ w) (b ∷ line) u =
     rw e (subst (λ l. Parted l (gathered ((a ∷ w) ++ b ∷ []) line)) (append-assoc (a ∷ w) (b ∷ []) line) h))
     (blank-cases b)
 
-pub words-exact : WordsExact
+pub words-exact : Words-exact
 unfolding words
 words-exact line ws = (λ e. subst (Parted line) e (words-parted [] line tt), parted-words)
 
 -- digits in either case
-upper-digit : (c : ℕ) → digitValue c < 16 → upper c ≡ hexDigit (digitValue c)
+upper-digit : (c : ℕ) → digitValue c < 16 → upper c ≡ hex-digit (digitValue c)
 upper-digit c h =
     ⊎-elim
     (λ (a : c < 58). grind (arith, tells))
     (λ (a : 58 ≤ c). ⊎-elim (λ (b : c < 91). grind (arith, tells)) (λ (b : 91 ≤ c). grind (arith, tells)) (cases-lt c 91))
     (cases-lt c 58)
 
-value-upper : (c d : ℕ) → d < 16 → upper c ≡ hexDigit d → digitValue c ≡ d
+value-upper : (c d : ℕ) → d < 16 → upper c ≡ hex-digit d → digitValue c ≡ d
 value-upper c d h e =
     ⊎-elim
     (λ (a : c < 58). grind (arith, tells))
@@ -208,8 +208,8 @@ before-inside None o bs e = let z : _≡_ {A = ℕ} 0 1 = cc in absurd (omega ar
 before-inside (Some b) None bs e = let z : _≡_ {A = ℕ} 0 1 = cc in absurd (omega arith)
 before-inside (Some b) (Some cs) bs e = (b, cs, refl, refl, cc)
 
-pub pairs-upper : (w bs : List ℕ) → pairs w ≡ Some bs → (map upper w ≡ solidPairs bs) × Every (λ b. b < 256) bs
-pairs-upper [] bs e = let q : [] ≡ bs = cc in (ap solidPairs q, subst (Every (λ b. b < 256)) q tt)
+pub pairs-upper : (w bs : List ℕ) → pairs w ≡ Some bs → (map upper w ≡ solid-pairs bs) × Every (λ b. b < 256) bs
+pairs-upper [] bs e = let q : [] ≡ bs = cc in (ap solid-pairs q, subst (Every (λ b. b < 256)) q tt)
 pairs-upper (high ∷ []) bs e = let z : _≡_ {A = ℕ} 0 1 = cc in absurd (omega arith)
 pairs-upper (high ∷ low ∷ ds) bs e =
     let i = before-inside (pair high low) (pairs ds) bs e in
@@ -218,20 +218,20 @@ pairs-upper (high ∷ low ∷ ds) bs e =
     let r = pairs-upper ds (i .1) (i .3) in
     let x : digitValue high ≡ b / 16 = omega (arith, p .0, p .1, p .2) in
     let y : digitValue low ≡ b % 16 = omega (arith, p .0, p .1, p .2) in
-    let f : upper high ≡ hexDigit (b / 16) = upper-digit high (p .0) ∙ ap hexDigit x in
-    let g : upper low ≡ hexDigit (b % 16) = upper-digit low (p .1) ∙ ap hexDigit y in
-    ((λ j. f j ∷ g j ∷ r .0 j) ∙ ap solidPairs (i .4), subst (Every (λ v. v < 256)) (i .4) (omega (arith, p .0, p .1, p .2), r .1))
+    let f : upper high ≡ hex-digit (b / 16) = upper-digit high (p .0) ∙ ap hex-digit x in
+    let g : upper low ≡ hex-digit (b % 16) = upper-digit low (p .1) ∙ ap hex-digit y in
+    ((λ j. f j ∷ g j ∷ r .0 j) ∙ ap solid-pairs (i .4), subst (Every (λ v. v < 256)) (i .4) (omega (arith, p .0, p .1, p .2), r .1))
 
-pub upper-pairs : (w bs : List ℕ) → map upper w ≡ solidPairs bs → Every (λ b. b < 256) bs → pairs w ≡ Some bs
+pub upper-pairs : (w bs : List ℕ) → map upper w ≡ solid-pairs bs → Every (λ b. b < 256) bs → pairs w ≡ Some bs
 upper-pairs [] [] e u = refl
 upper-pairs [] (b ∷ bs) e u = let z : _≡_ {A = ℕ} 0 1 = cc in absurd (omega arith)
 upper-pairs (high ∷ ds) [] e u = let z : _≡_ {A = ℕ} 0 1 = cc in absurd (omega arith)
 upper-pairs (high ∷ []) (b ∷ bs) e u = let z : _≡_ {A = ℕ} 0 1 = cc in absurd (omega arith)
 upper-pairs (high ∷ low ∷ ds) (b ∷ bs) e u =
-    let h : upper high ∷ upper low ∷ map upper ds ≡ hexDigit (b / 16) ∷ hexDigit (b % 16) ∷ solidPairs bs = e in
-    let p : upper high ≡ hexDigit (b / 16) = cc in
-    let q : upper low ≡ hexDigit (b % 16) = cc in
-    let r : map upper ds ≡ solidPairs bs = cc in
+    let h : upper high ∷ upper low ∷ map upper ds ≡ hex-digit (b / 16) ∷ hex-digit (b % 16) ∷ solid-pairs bs = e in
+    let p : upper high ≡ hex-digit (b / 16) = cc in
+    let q : upper low ≡ hex-digit (b % 16) = cc in
+    let r : map upper ds ≡ solid-pairs bs = cc in
     let l = u .0 in
     let x = value-upper high (b / 16) (omega arith) p in
     let y = value-upper low (b % 16) (omega arith) q in
@@ -239,5 +239,5 @@ upper-pairs (high ∷ low ∷ ds) (b ∷ bs) e u =
     let v : digitValue high * 16 + digitValue low ≡ b = omega arith in
     (λ j. before ((k ∙ ap Some v) j) (upper-pairs ds bs r (u .1) j))
 
-pub pairs-exact : PairsExact
+pub pairs-exact : Pairs-exact
 pairs-exact w bs = (pairs-upper w bs, upper-pairs w bs)

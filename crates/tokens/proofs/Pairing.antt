@@ -8,10 +8,10 @@ use lib.ListN.{length, getD, take, drop}
 use Rattle.std.specs.declared.option.Option.{Option}
 use Rattle.std.specs.declared.option.Option.the-variants.{Some, None}
 use Rattle.std.proofs.shelf.Lists.{append-assoc, append-nil, take-rest, at-drop-more, at-drop-all}
-use Rattle.tokens.specs.Bytes.{pair, before, pairs, behind, joinedTo, bytesOf, fourOf}
+use Rattle.tokens.specs.Bytes.{pair, before, pairs, behind, joined-to, bytes-of, four-of}
 
 -- eight digits are four pairs
-four-is : (w : List ℕ) → length w ≡ 8 → fourOf w ≡ before (pair (getD w 0 0) (getD w 1 0)) (before (pair (getD w 2 0) (getD w 3 0)) (before (pair (getD w 4 0) (getD w 5 0)) (before (pair (getD w 6 0) (getD w 7 0)) (Some []))))
+four-is : (w : List ℕ) → length w ≡ 8 → four-of w ≡ before (pair (getD w 0 0) (getD w 1 0)) (before (pair (getD w 2 0) (getD w 3 0)) (before (pair (getD w 4 0) (getD w 5 0)) (before (pair (getD w 6 0) (getD w 7 0)) (Some []))))
 four-is [] e = absurd (omega arith)
 four-is (a ∷ []) q = absurd (omega arith)
 four-is (a ∷ b ∷ []) q = absurd (omega arith)
@@ -23,7 +23,7 @@ four-is (a ∷ b ∷ c ∷ d ∷ e ∷ f ∷ g ∷ []) q = absurd (omega arith)
 four-is (a ∷ b ∷ c ∷ d ∷ e ∷ f ∷ g ∷ h ∷ []) q = refl
 four-is (a ∷ b ∷ c ∷ d ∷ e ∷ f ∷ g ∷ h ∷ i ∷ w) q = absurd (omega arith)
 
-pub four-by : (w : List ℕ) (p q r s : Option ℕ) → length w ≡ 8 → p ≡ pair (getD w 0 0) (getD w 1 0) → q ≡ pair (getD w 2 0) (getD w 3 0) → r ≡ pair (getD w 4 0) (getD w 5 0) → s ≡ pair (getD w 6 0) (getD w 7 0) → before p (before q (before r (before s (Some [])))) ≡ fourOf w
+pub four-by : (w : List ℕ) (p q r s : Option ℕ) → length w ≡ 8 → p ≡ pair (getD w 0 0) (getD w 1 0) → q ≡ pair (getD w 2 0) (getD w 3 0) → r ≡ pair (getD w 4 0) (getD w 5 0) → s ≡ pair (getD w 6 0) (getD w 7 0) → before p (before q (before r (before s (Some [])))) ≡ four-of w
 four-by w p q r s h e f g k = rw (e, f, g, k) (sym (four-is w h))
 
 -- the first pair of a word, and the rest as the pattern has it
@@ -56,24 +56,24 @@ behind-behind xs ys None = refl
 behind-behind xs ys (Some zs) = ap Some (append-assoc xs ys zs)
 
 -- one word behind the bytes so far
-pub word-whole : (xs ys : List ℕ) (p o : Option (List ℕ)) → Some ys ≡ behind xs p → behind ys o ≡ behind xs (joinedTo p o)
+pub word-whole : (xs ys : List ℕ) (p o : Option (List ℕ)) → Some ys ≡ behind xs p → behind ys o ≡ behind xs (joined-to p o)
 word-whole xs ys None o e = let z : _≡_ {A = ℕ} 0 1 = cc in absurd (omega arith)
 word-whole xs ys (Some zs) o e = let q : ys ≡ xs ++ zs = cc in ap (λ l. behind l o) q ∙ behind-behind xs zs o
 
-pub word-bad : (xs : List ℕ) (p o : Option (List ℕ)) → None ≡ behind xs p → None ≡ behind xs (joinedTo p o)
+pub word-bad : (xs : List ℕ) (p o : Option (List ℕ)) → None ≡ behind xs p → None ≡ behind xs (joined-to p o)
 word-bad xs None o e = refl
 word-bad xs (Some zs) o e = let z : _≡_ {A = ℕ} 0 1 = cc in absurd (omega arith)
 
 -- the steps of the loop over words
-module _ {R : Type 0} (f : R → List ℕ) (ws : List R) (i : ℕ) (d : R) (xs : List ℕ) (all : Option (List ℕ)) (e : behind xs (bytesOf (map f (drop i ws))) ≡ all) where
-  first-of : i < length ws → behind xs (joinedTo (pairs (f (getD ws i d))) (bytesOf (map f (drop (i + 1) ws)))) ≡ all
-  first-of h = ap (behind xs) (sym (at-drop-more (λ l. bytesOf (map f l)) ws i d h)) ∙ e
+module _ {R : Type 0} (f : R → List ℕ) (ws : List R) (i : ℕ) (d : R) (xs : List ℕ) (all : Option (List ℕ)) (e : behind xs (bytes-of (map f (drop i ws))) ≡ all) where
+  first-of : i < length ws → behind xs (joined-to (pairs (f (getD ws i d))) (bytes-of (map f (drop (i + 1) ws)))) ≡ all
+  first-of h = ap (behind xs) (sym (at-drop-more (λ l. bytes-of (map f l)) ws i d h)) ∙ e
 
   pub bytes-bad : i < length ws → (t : Bool) (ys : List ℕ) → t ≡ false → cond t (Some ys) None ≡ behind xs (pairs (f (getD ws i d))) → None ≡ all
   bytes-bad h t ys n q = word-bad xs _ _ (ap (λ b. cond b (Some ys) None) (sym n) ∙ q) ∙ first-of h
 
-  pub bytes-more : i < length ws → (t : Bool) (ys : List ℕ) → t ≡ true → cond t (Some ys) None ≡ behind xs (pairs (f (getD ws i d))) → behind ys (bytesOf (map f (drop (i + 1) ws))) ≡ all
-  bytes-more h t ys n q = word-whole xs ys _ (bytesOf (map f (drop (i + 1) ws))) (ap (λ b. cond b (Some ys) None) (sym n) ∙ q) ∙ first-of h
+  pub bytes-more : i < length ws → (t : Bool) (ys : List ℕ) → t ≡ true → cond t (Some ys) None ≡ behind xs (pairs (f (getD ws i d))) → behind ys (bytes-of (map f (drop (i + 1) ws))) ≡ all
+  bytes-more h t ys n q = word-whole xs ys _ (bytes-of (map f (drop (i + 1) ws))) (ap (λ b. cond b (Some ys) None) (sym n) ∙ q) ∙ first-of h
 
   pub bytes-all : length ws ≤ i → Some xs ≡ all
-  bytes-all h = ap Some (sym (append-nil xs)) ∙ ap (behind xs) (sym (at-drop-all (λ l. bytesOf (map f l)) ws i h)) ∙ e
+  bytes-all h = ap Some (sym (append-nil xs)) ∙ ap (behind xs) (sym (at-drop-all (λ l. bytes-of (map f l)) ws i h)) ∙ e

@@ -30,15 +30,15 @@ behind xs None = None
 behind xs (Some ys) = Some (xs ++ ys)
 
 -- the bytes of one word before those of the rest
-abbrev pub joinedTo : Option (List ℕ) → Option (List ℕ) → Option (List ℕ)
-joinedTo None o = None
-joinedTo (Some xs) o = behind xs o
+abbrev pub joined-to : Option (List ℕ) → Option (List ℕ) → Option (List ℕ)
+joined-to None o = None
+joined-to (Some xs) o = behind xs o
 
 -- the bytes of words that are each made of whole pairs
-abbrev pub bytesOf : List (List ℕ) → Option (List ℕ)
-bytesOf [] = Some []
-bytesOf (w ∷ ws) = joinedTo (pairs w) (bytesOf ws)
+abbrev pub bytes-of : List (List ℕ) → Option (List ℕ)
+bytes-of [] = Some []
+bytes-of (w ∷ ws) = joined-to (pairs w) (bytes-of ws)
 
 -- four bytes, as exactly eight digits
-abbrev pub fourOf : List ℕ → Option (List ℕ)
-fourOf w = cond (eqb (length w) 8) (pairs w) None
+abbrev pub four-of : List ℕ → Option (List ℕ)
+four-of w = cond (eqb (length w) 8) (pairs w) None

@@ -12,14 +12,14 @@ use Rattle.tokens.specs.declared.names.Name.{Name}
 abbrev pub letter : ℕ → Bool
 letter b = leb 97 b && leb b 122
 
-abbrev pub allLetters : List ℕ → Bool
-allLetters [] = true
-allLetters (b ∷ bs) = letter b && allLetters bs
+abbrev pub all-letters : List ℕ → Bool
+all-letters [] = true
+all-letters (b ∷ bs) = letter b && all-letters bs
 
 -- 1 to 16 letters, with zeros behind them up to 16 bytes
-abbrev pub nameOf : List ℕ → Option (List ℕ)
-nameOf w = cond (ltb 0 (length w) && leb (length w) 16) (cond (allLetters w) (Some (w ++ replicate (16 - length w) 0)) None) None
+abbrev pub name-of : List ℕ → Option (List ℕ)
+name-of w = cond (ltb 0 (length w) && leb (length w) 16) (cond (all-letters w) (Some (w ++ replicate (16 - length w) 0)) None) None
 
 -- what a name holds: its letters, with zeros behind them
-abbrev pub lettersOf : Name → List ℕ
-lettersOf n = n .letters
+abbrev pub letters-of : Name → List ℕ
+letters-of n = n .letters

@@ -14,9 +14,9 @@ onward base n [] = Some n
 onward base n (d ∷ ds) = cond (ltb (digitValue d) base) (onward base (n * base + digitValue d) ds) None
 
 -- at least one digit of the base, and nothing else
-abbrev pub digitsIn : ℕ → List ℕ → Option ℕ
-digitsIn base [] = None
-digitsIn base (d ∷ ds) = onward base 0 (d ∷ ds)
+abbrev pub digits-in : ℕ → List ℕ → Option ℕ
+digits-in base [] = None
+digits-in base (d ∷ ds) = onward base 0 (d ∷ ds)
 
 -- the word begins with `0x`
 abbrev pub hexed : List ℕ → Bool
@@ -24,9 +24,9 @@ hexed w = eqb (getD w 0 0) 48 && eqb (getD w 1 0) 120
 
 -- a numeral is decimal, or hexadecimal behind `0x`
 unfoldable pub numeral : List ℕ → Option ℕ
-numeral w = cond (hexed w) (digitsIn 16 (drop 2 w)) (digitsIn 10 w)
+numeral w = cond (hexed w) (digits-in 16 (drop 2 w)) (digits-in 10 w)
 
 -- a number up to `most`
-abbrev pub upTo : ℕ → Option ℕ → Option ℕ
-upTo most None = None
-upTo most (Some n) = cond (leb n most) (Some n) None
+abbrev pub up-to : ℕ → Option ℕ → Option ℕ
+up-to most None = None
+up-to most (Some n) = cond (leb n most) (Some n) None

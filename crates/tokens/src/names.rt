@@ -1,7 +1,8 @@
-// Names of posts.
+//! Names of posts.
+
 ghost use mathlib.Core.Path.{_≡_};
 ghost use Rattle.std.specs.Options.{mapped};
-ghost use Rattle.tokens.specs.Names.{letter, nameOf, lettersOf};
+ghost use Rattle.tokens.specs.Names.{letter, name-of, letters-of};
 
 /// The name of a post: 1 to 16 letters a to z, with zeros behind them.
 #[derive(Clone, Copy)]
@@ -15,9 +16,9 @@ fn is_letter(byte: u8) -> bool
     byte >= b'a' && byte <= b'z'
 }
 
-// The name that the word is.
+/// The name that the word is.
 pub fn read_name(word: &[u8]) -> Option<Name>
-    ensures { λ r. ⌜ mapped lettersOf r ≡ nameOf (now (word .entry)) ⌝ }
+    ensures { λ r. ⌜ mapped letters-of r ≡ name-of (now (word .entry)) ⌝ }
 {
     if word.is_empty() || word.len() > 16 {
         return None;

@@ -1,11 +1,12 @@
-// A line cut into its words, which borrow it.
+//! A line cut into its words, which borrow it.
+
 ghost use mathlib.Core.Path.{_≡_};
 ghost use mathlib.Core.List.{map};
 ghost use mathlib.Core.Bool.{true};
 ghost use denote.Ref.{now as held};
 ghost use Rattle.std.specs.Of.Vec.{vec-items};
 ghost use Rattle.std.specs.Vec.{made};
-ghost use Rattle.tokens.specs.Words.{blank, words as wordsOf};
+ghost use Rattle.tokens.specs.Words.{blank, words as words-of};
 use std::alloc::AllocError;
 use std::alloc::Global;
 
@@ -15,9 +16,9 @@ fn is_blank(byte: u8) -> bool
     byte == b' ' || byte == b'\t'
 }
 
-// The words of the line, in order.
+/// The words of the line, in order.
 pub fn split_words(heap: Global, line: &[u8]) -> Result<Vec<&[u8]>, AllocError>
-    ensures { λ r. ⌜ made r (λ v. map (λ w. w .now) (vec-items v) ≡ wordsOf (now (line .entry))) ⌝ }
+    ensures { λ r. ⌜ made r (λ v. map (λ w. w .now) (vec-items v) ≡ words-of (now (line .entry))) ⌝ }
 {
     let mut words = Vec::new(heap);
     let mut start = 0;

@@ -7,7 +7,7 @@ use Rattle.std.specs.Options.{mapped}
 use Rattle.std.specs.declared.option.Option.the-variants.{Some, None}
 use Rattle.std.proofs.shelf.Tests.{ltb-true, ltb-false}
 use Rattle.script.specs.Grammar.{Kind, Body, number, four, name, direction, num, raw, called, body, said, enrol}
-use Rattle.script.specs.Shown.{callShown}
+use Rattle.script.specs.Shown.{call-shown}
 use Rattle.script.proofs.Parsing.{wrong-count, by-all, one-number}
 use Rattle.script.proofs.reading.read_meter.Needs as need
 

@@ -5,9 +5,9 @@ use mathlib.Core.List.{[], _∷_}
 use Rattle.std.specs.Options.{mapped}
 use Rattle.std.specs.declared.option.Option.the-variants.{Some, None}
 use Rattle.std.proofs.shelf.Tests.{ltb-true, ltb-false}
-use Rattle.tokens.specs.Names.{lettersOf}
+use Rattle.tokens.specs.Names.{letters-of}
 use Rattle.script.specs.Grammar.{num, raw, called, body, said, commanded, post}
-use Rattle.script.specs.Shown.{callShown, answered, directionShown}
+use Rattle.script.specs.Shown.{call-shown, answered, direction-shown}
 use Rattle.script.proofs.Parsing.{wrong-count, by-all}
 use Rattle.script.proofs.reading.read_post.Needs as need
 
@@ -20,12 +20,12 @@ returns-in-Break-name c =
 
 pub returns-in-Break-meters : need.returns-in-Break-meters
 returns-in-Break-meters c =
-    ap (answered) (c .from-residual-in-Break-meters .ensures) ∙ ap (λ o. commanded (mapped (said (post .keyword)) o)) (by-all (post .arguments) (c .args .args .now) (Some (called (lettersOf (c .in-Continue-name .name))) ∷ None ∷ _ ∷ []) (omega (arith, ltb-true, ltb-false)) (ap (mapped called) (c .in-Continue-name .ensures tt), (ap (mapped num) (c .in-Break-meters .ensures tt), (refl, tt))))
+    ap (answered) (c .from-residual-in-Break-meters .ensures) ∙ ap (λ o. commanded (mapped (said (post .keyword)) o)) (by-all (post .arguments) (c .args .args .now) (Some (called (letters-of (c .in-Continue-name .name))) ∷ None ∷ _ ∷ []) (omega (arith, ltb-true, ltb-false)) (ap (mapped called) (c .in-Continue-name .ensures tt), (ap (mapped num) (c .in-Break-meters .ensures tt), (refl, tt))))
 
 pub returns-in-Break-readings : need.returns-in-Break-readings
 returns-in-Break-readings c =
-    ap (answered) (c .from-residual-in-Break-readings .ensures) ∙ ap (λ o. commanded (mapped (said (post .keyword)) o)) (by-all (post .arguments) (c .args .args .now) (Some (called (lettersOf (c .in-Continue-name .name))) ∷ Some (num (c .in-Continue-meters .meters)) ∷ None ∷ []) (omega (arith, ltb-true, ltb-false)) (ap (mapped called) (c .in-Continue-name .ensures tt), (ap (mapped num) (c .in-Continue-meters .ensures tt), (ap (mapped num) (c .in-Break-readings .ensures tt), tt))))
+    ap (answered) (c .from-residual-in-Break-readings .ensures) ∙ ap (λ o. commanded (mapped (said (post .keyword)) o)) (by-all (post .arguments) (c .args .args .now) (Some (called (letters-of (c .in-Continue-name .name))) ∷ Some (num (c .in-Continue-meters .meters)) ∷ None ∷ []) (omega (arith, ltb-true, ltb-false)) (ap (mapped called) (c .in-Continue-name .ensures tt), (ap (mapped num) (c .in-Continue-meters .ensures tt), (ap (mapped num) (c .in-Break-readings .ensures tt), tt))))
 
 pub returns : need.returns
 returns c =
-    ap (λ o. commanded (mapped (said (post .keyword)) o)) (by-all (post .arguments) (c .args .args .now) (Some (called (lettersOf (c .in-Continue-name .name))) ∷ Some (num (c .in-Continue-meters .meters)) ∷ Some (num (c .in-Continue-readings .readings)) ∷ []) (omega (arith, ltb-true, ltb-false)) (ap (mapped called) (c .in-Continue-name .ensures tt), (ap (mapped num) (c .in-Continue-meters .ensures tt), (ap (mapped num) (c .in-Continue-readings .ensures tt), tt))))
+    ap (λ o. commanded (mapped (said (post .keyword)) o)) (by-all (post .arguments) (c .args .args .now) (Some (called (letters-of (c .in-Continue-name .name))) ∷ Some (num (c .in-Continue-meters .meters)) ∷ Some (num (c .in-Continue-readings .readings)) ∷ []) (omega (arith, ltb-true, ltb-false)) (ap (mapped called) (c .in-Continue-name .ensures tt), (ap (mapped num) (c .in-Continue-meters .ensures tt), (ap (mapped num) (c .in-Continue-readings .ensures tt), tt))))

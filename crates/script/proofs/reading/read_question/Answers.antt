@@ -5,9 +5,9 @@ use mathlib.Core.List.{[], _∷_}
 use Rattle.std.specs.Options.{mapped}
 use Rattle.std.specs.declared.option.Option.the-variants.{Some, None}
 use Rattle.std.proofs.shelf.Tests.{ltb-true, ltb-false}
-use Rattle.tokens.specs.Names.{lettersOf}
+use Rattle.tokens.specs.Names.{letters-of}
 use Rattle.script.specs.Grammar.{num, raw, called, body, said, commanded, ask}
-use Rattle.script.specs.Shown.{callShown, answered, directionShown}
+use Rattle.script.specs.Shown.{call-shown, answered, direction-shown}
 use Rattle.script.proofs.Parsing.{wrong-count, by-all}
 use Rattle.script.proofs.reading.read_question.Needs as need
 

@@ -5,9 +5,9 @@ use mathlib.Core.List.{[], _∷_}
 use Rattle.std.specs.Options.{mapped}
 use Rattle.std.specs.declared.option.Option.the-variants.{Some, None}
 use Rattle.std.proofs.shelf.Tests.{ltb-true, ltb-false}
-use Rattle.tokens.specs.Names.{lettersOf}
+use Rattle.tokens.specs.Names.{letters-of}
 use Rattle.script.specs.Grammar.{num, raw, called, body, said, commanded, same}
-use Rattle.script.specs.Shown.{callShown, answered, directionShown}
+use Rattle.script.specs.Shown.{call-shown, answered, direction-shown}
 use Rattle.script.proofs.Parsing.{wrong-count, by-all}
 use Rattle.script.proofs.reading.read_same.Needs as need
 
@@ -20,8 +20,8 @@ returns-in-Break-first c =
 
 pub returns-in-Break-second : need.returns-in-Break-second
 returns-in-Break-second c =
-    ap (answered) (c .from-residual-in-Break-second .ensures) ∙ ap (λ o. commanded (mapped (said (same .keyword)) o)) (by-all (same .arguments) (c .args .args .now) (Some (called (lettersOf (c .in-Continue-first .first))) ∷ None ∷ []) (omega (arith, ltb-true, ltb-false)) (ap (mapped called) (c .in-Continue-first .ensures tt), (ap (mapped called) (c .in-Break-second .ensures tt), tt)))
+    ap (answered) (c .from-residual-in-Break-second .ensures) ∙ ap (λ o. commanded (mapped (said (same .keyword)) o)) (by-all (same .arguments) (c .args .args .now) (Some (called (letters-of (c .in-Continue-first .first))) ∷ None ∷ []) (omega (arith, ltb-true, ltb-false)) (ap (mapped called) (c .in-Continue-first .ensures tt), (ap (mapped called) (c .in-Break-second .ensures tt), tt)))
 
 pub returns : need.returns
 returns c =
-    ap (λ o. commanded (mapped (said (same .keyword)) o)) (by-all (same .arguments) (c .args .args .now) (Some (called (lettersOf (c .in-Continue-first .first))) ∷ Some (called (lettersOf (c .in-Continue-second .second))) ∷ []) (omega (arith, ltb-true, ltb-false)) (ap (mapped called) (c .in-Continue-first .ensures tt), (ap (mapped called) (c .in-Continue-second .ensures tt), tt)))
+    ap (λ o. commanded (mapped (said (same .keyword)) o)) (by-all (same .arguments) (c .args .args .now) (Some (called (letters-of (c .in-Continue-first .first))) ∷ Some (called (letters-of (c .in-Continue-second .second))) ∷ []) (omega (arith, ltb-true, ltb-false)) (ap (mapped called) (c .in-Continue-first .ensures tt), (ap (mapped called) (c .in-Continue-second .ensures tt), tt)))

@@ -5,9 +5,9 @@ use mathlib.Core.List.{[], _∷_}
 use Rattle.std.specs.Options.{mapped}
 use Rattle.std.specs.declared.option.Option.the-variants.{Some, None}
 use Rattle.std.proofs.shelf.Tests.{ltb-true, ltb-false}
-use Rattle.tokens.specs.Names.{lettersOf}
+use Rattle.tokens.specs.Names.{letters-of}
 use Rattle.script.specs.Grammar.{num, raw, called, body, said, commanded, save}
-use Rattle.script.specs.Shown.{callShown, answered, directionShown}
+use Rattle.script.specs.Shown.{call-shown, answered, direction-shown}
 use Rattle.script.proofs.Parsing.{wrong-count, by-all}
 use Rattle.script.proofs.reading.read_save.Needs as need
 
@@ -16,7 +16,7 @@ returns-in-rest c = ap (mapped (said (save .keyword))) (wrong-count (save .argum
 
 pub returns-in-Break-buffer : need.returns-in-Break-buffer
 returns-in-Break-buffer c =
-    ap (mapped callShown) (c .from-residual .ensures) ∙ ap (mapped (said (save .keyword))) (by-all (save .arguments) (c .args .args .now) (None ∷ []) (omega (arith, ltb-true, ltb-false)) (ap (mapped num) (c .in-Break-buffer .ensures tt), tt))
+    ap (mapped call-shown) (c .from-residual .ensures) ∙ ap (mapped (said (save .keyword))) (by-all (save .arguments) (c .args .args .now) (None ∷ []) (omega (arith, ltb-true, ltb-false)) (ap (mapped num) (c .in-Break-buffer .ensures tt), tt))
 
 pub returns : need.returns
 returns c =

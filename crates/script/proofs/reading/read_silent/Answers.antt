@@ -5,9 +5,9 @@ use mathlib.Core.List.{[], _∷_}
 use Rattle.std.specs.Options.{mapped}
 use Rattle.std.specs.declared.option.Option.the-variants.{Some, None}
 use Rattle.std.proofs.shelf.Tests.{ltb-true, ltb-false}
-use Rattle.tokens.specs.Names.{lettersOf}
+use Rattle.tokens.specs.Names.{letters-of}
 use Rattle.script.specs.Grammar.{num, raw, called, body, said, commanded, silent}
-use Rattle.script.specs.Shown.{callShown, answered, directionShown}
+use Rattle.script.specs.Shown.{call-shown, answered, direction-shown}
 use Rattle.script.proofs.Parsing.{wrong-count, by-all}
 use Rattle.script.proofs.reading.read_silent.Needs as need
 
@@ -16,11 +16,11 @@ returns-in-rest c = ap (mapped (said (silent .keyword))) (wrong-count (silent .a
 
 pub returns-in-Break-slot : need.returns-in-Break-slot
 returns-in-Break-slot c =
-    ap (mapped callShown) (c .from-residual .ensures) ∙ ap (mapped (said (silent .keyword))) (by-all (silent .arguments) (c .args .args .now) (None ∷ _ ∷ []) (omega (arith, ltb-true, ltb-false)) (ap (mapped num) (c .in-Break-slot .ensures tt), (refl, tt)))
+    ap (mapped call-shown) (c .from-residual .ensures) ∙ ap (mapped (said (silent .keyword))) (by-all (silent .arguments) (c .args .args .now) (None ∷ _ ∷ []) (omega (arith, ltb-true, ltb-false)) (ap (mapped num) (c .in-Break-slot .ensures tt), (refl, tt)))
 
 pub returns-in-Break-list : need.returns-in-Break-list
 returns-in-Break-list c =
-    ap (mapped callShown) (c .from-residual-in-Break-list .ensures) ∙ ap (mapped (said (silent .keyword))) (by-all (silent .arguments) (c .args .args .now) (Some (num (c .in-Continue-slot .slot)) ∷ None ∷ []) (omega (arith, ltb-true, ltb-false)) (ap (mapped num) (c .in-Continue-slot .ensures tt), (ap (mapped num) (c .in-Break-list .ensures tt), tt)))
+    ap (mapped call-shown) (c .from-residual-in-Break-list .ensures) ∙ ap (mapped (said (silent .keyword))) (by-all (silent .arguments) (c .args .args .now) (Some (num (c .in-Continue-slot .slot)) ∷ None ∷ []) (omega (arith, ltb-true, ltb-false)) (ap (mapped num) (c .in-Continue-slot .ensures tt), (ap (mapped num) (c .in-Break-list .ensures tt), tt)))
 
 pub returns : need.returns
 returns c =

@@ -6,14 +6,14 @@ use Rattle.std.specs.Of.Vec.{vec-items}
 use Rattle.std.specs.Options.{mapped}
 use Rattle.std.specs.declared.option.Option.the-variants.{Some, None}
 use Rattle.std.proofs.shelf.Tests.{ltb-true, ltb-false, eqb-true}
-use Rattle.tokens.specs.Names.{lettersOf}
-use Rattle.script.specs.Grammar.{num, raw, called, body, said, commanded, saidBy, number, calling, unpack}
-use Rattle.script.specs.Shown.{callShown, answered, directionShown, verbForm}
+use Rattle.tokens.specs.Names.{letters-of}
+use Rattle.script.specs.Grammar.{num, raw, called, body, said, commanded, said-by, number, calling, unpack}
+use Rattle.script.specs.Shown.{call-shown, answered, direction-shown, verb-form}
 use Rattle.script.proofs.Parsing.{none-held, by-first}
 use Rattle.script.proofs.reading.read_unpack.Needs as need
 
 pub returns-in-rest : need.returns-in-rest
-returns-in-rest c = ap (λ ws. commanded (saidBy unpack ws)) (none-held (c .args .args .now) (omega (arith, ltb-true)))
+returns-in-rest c = ap (λ ws. commanded (said-by unpack ws)) (none-held (c .args .args .now) (omega (arith, ltb-true)))
 
 pub returns-in-Some-2 : need.returns-in-Some-2
 returns-in-Some-2 c =

@@ -6,9 +6,9 @@ use Rattle.std.specs.Of.Vec.{vec-items}
 use Rattle.std.specs.Options.{mapped}
 use Rattle.std.specs.declared.option.Option.the-variants.{Some, None}
 use Rattle.std.proofs.shelf.Tests.{ltb-true, ltb-false, eqb-true}
-use Rattle.tokens.specs.Names.{lettersOf}
-use Rattle.script.specs.Grammar.{num, raw, called, body, said, commanded, saidBy, number, calling, told}
-use Rattle.script.specs.Shown.{callShown, answered, directionShown, verbForm}
+use Rattle.tokens.specs.Names.{letters-of}
+use Rattle.script.specs.Grammar.{num, raw, called, body, said, commanded, said-by, number, calling, told}
+use Rattle.script.specs.Shown.{call-shown, answered, direction-shown, verb-form}
 use Rattle.script.proofs.Parsing.{no-words, a-remark, a-sentence}
 use Rattle.script.proofs.reading.read_words.Needs as need
 

@@ -2,7 +2,7 @@ use mathlib.Core.Path.{refl, sym, ap, _∙_}
 use mathlib.Core.List.{_∷_}
 use Rattle.std.specs.Of.String.{string-bytes}
 use Rattle.std.specs.Written.{decimal}
-use Rattle.text.specs.Answers.{twoDigits}
+use Rattle.text.specs.Answers.{two-digits}
 use Rattle.text.proofs.Printing.{wrote-more, wrote-all}
 use Rattle.text.proofs.writing.write_numbers.Needs as need
 

@@ -3,7 +3,7 @@ use mathlib.Core.Path.{refl, sym, ap, _∙_}
 use mathlib.Core.List.{[], _∷_, _++_}
 use Rattle.std.specs.Of.String.{string-bytes}
 use Rattle.std.proofs.shelf.Tests.{ltb-false}
-use Rattle.text.specs.Answers.{twoDigits}
+use Rattle.text.specs.Answers.{two-digits}
 use Rattle.text.proofs.Printing.{two-pushed}
 use Rattle.text.proofs.writing.write_pair.Needs as need
 

@@ -7,7 +7,7 @@ use borrow.Author.Needs.{needs}
 use Rattle.std.specs.Text.{digitValue}
 use Rattle.std.proofs.shelf.Lists.{drop-all}
 use Rattle.std.proofs.shelf.Tests.{le-leb, eqb-false}
-use Rattle.tokens.specs.Numerals.{onward, upTo}
+use Rattle.tokens.specs.Numerals.{onward, up-to}
 use Rattle.tokens.proofs.Spelling.{some-digits, step-bad, step-more, step-past, step-end}
 use Rattle.tokens.proofs.numerals.read_digits.Needs as need
 
