@@ -1,4 +1,5 @@
 //! The numbers by which a frame names its command and what it asks for.
+
 ghost use mathlib.Core.Path.{_≡_};
 ghost use Rattle.std.specs.Orderings.{When};
 ghost use Rattle.numbering.specs.Exactly.{Exactly};
@@ -30,6 +31,7 @@ impl Command {
         }
     }
 
+    /// The number that stands for it in a frame.
     pub fn number(self) -> u8
         ensures { λ r. ⌜ r ≡ command-number self ⌝ }
     {
@@ -72,6 +74,7 @@ impl Energy {
         }
     }
 
+    /// The number that stands for it in a frame.
     pub fn number(self) -> u8
         ensures { λ r. ⌜ r ≡ energy-number self ⌝ }
     {
@@ -116,6 +119,7 @@ impl TextField {
         }
     }
 
+    /// The number that stands for it in a frame.
     pub fn number(self) -> u8
         ensures { λ r. ⌜ r ≡ field-number self ⌝ }
     {
@@ -150,6 +154,7 @@ impl Parameter {
         }
     }
 
+    /// The number that stands for it in a frame.
     pub fn number(self) -> u8
         ensures { λ r. ⌜ r ≡ parameter-number self ⌝ }
     {
@@ -200,6 +205,7 @@ impl Relay {
         }
     }
 
+    /// The number that stands for it in a frame.
     pub fn number(self) -> u8
         ensures { λ r. ⌜ r ≡ relay-number self ⌝ }
     {
@@ -226,6 +232,7 @@ impl Position {
         }
     }
 
+    /// The number that stands for it in a frame.
     pub fn number(self) -> u8
         ensures { λ r. ⌜ r ≡ position-number self ⌝ }
     {

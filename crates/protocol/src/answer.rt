@@ -1,4 +1,5 @@
 //! What the data of an answer say.
+
 ghost use mathlib.Core.Path.{_≡_};
 ghost use Rattle.protocol.specs.Answers.{Means};
 ghost use Rattle.numbering.specs.Exactly.{Exactly};

@@ -1,4 +1,5 @@
 //! Numbers of several bytes, the lowest byte first, and bytes put at the front of a buffer.
+
 ghost use mathlib.Core.Path.{_≡_};
 ghost use mathlib.Core.List.{_++_};
 ghost use Prim.Native.Nat.{ℕ, _+_, _<_, _≤_};

@@ -1,4 +1,5 @@
 //! The values of a counter, as an answer carries them behind the counter's type.
+
 ghost use mathlib.Core.Path.{_≡_};
 ghost use mathlib.Core.List.{_∷_};
 ghost use Rattle.protocol.specs.Counting.{Fit, «counters-bytes»};
@@ -21,6 +22,7 @@ pub struct Counters {
 }
 
 impl Counters {
+    /// The values in the 29 bytes behind a counter's type.
     pub fn read(bytes: &[u8]) -> Option<Counters>
         ensures { λ r. ⌜ Exactly (λ x. (counters-bytes x ≡ now (bytes .entry)) × Fit x) r ⌝ }
     {

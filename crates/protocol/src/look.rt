@@ -1,4 +1,5 @@
 //! A whole body, read as what it says.
+
 ghost use mathlib.Core.Path.{_≡_};
 ghost use Rattle.wire.specs.Fields.{content};
 ghost use Rattle.numbering.specs.Exactly.{Exactly};
@@ -9,9 +10,7 @@ use numbering::Command;
 use wire::body::Direction;
 use wire::body::Fields;
 use wire::fault::Fault;
-
-/// The most bytes that a body has.
-const LONGEST: usize = 43;
+use wire::receiver::LONGEST;
 
 /// What a body says. A complaint is an answer whose fourth status is not 0; its data are not read.
 #[derive(Clone, Copy)]
@@ -44,6 +43,7 @@ pub enum Refusal {
 }
 
 impl Refusal {
+    /// The refusal's number; a fault has its own.
     pub fn number(self) -> u8
         ensures { λ r. ⌜ r ≡ refusal-number self ⌝ }
     {
@@ -54,6 +54,7 @@ impl Refusal {
     }
 }
 
+/// What the fields of a good body say.
 fn seen(fields: Fields<'_>) -> Option<Look<'_>>
     ensures { λ r. ⌜ Exactly (Shows (content (fields .entry))) r ⌝ }
 {

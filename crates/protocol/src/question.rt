@@ -1,4 +1,5 @@
 //! What a question asks, as its command and its data.
+
 ghost use mathlib.Core.Path.{_≡_};
 ghost use Rattle.std.specs.declared.option.Option.the-variants.{Some};
 ghost use Rattle.protocol.specs.Bytes.{Put};
@@ -67,6 +68,7 @@ impl Question {
         read_question(command, bytes)
     }
 
+    /// The command that the question is sent with.
     pub fn command(self) -> Command
         ensures { λ r. ⌜ r ≡ question-command self ⌝ }
     {

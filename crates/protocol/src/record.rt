@@ -1,4 +1,5 @@
 //! What is filed of an answer.
+
 ghost use mathlib.Core.Path.{_≡_};
 ghost use mathlib.Core.List.{_∷_};
 ghost use Rattle.std.specs.declared.option.Option.the-variants.{Some};
@@ -70,6 +71,7 @@ impl Record {
         read_record(selector, source, bytes)
     }
 
+    /// The selector whose answer this is.
     pub fn selector(&self) -> Selector
         ensures { λ r. ⌜ r ≡ selector-of (now (self .entry)) ⌝ }
     {

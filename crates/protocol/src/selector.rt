@@ -1,4 +1,5 @@
 //! What a reading question asks for; each selector has one slot, where its answer is filed.
+
 ghost use mathlib.Core.Path.{_≡_};
 ghost use mathlib.Core.Bool.{true, cond};
 ghost use Prim.Native.Nat.{_+_, _-_, _≤_};
@@ -38,6 +39,7 @@ fn number_at(low: u8, rank: u8) -> u8
 }
 
 /// The selector whose slot this is.
+/// The selector whose slot this is.
 fn find(slot: u8) -> Option<Selector>
     ensures { λ r. ⌜ Exactly (λ x. slot-of x ≡ slot) r ⌝ }
 {
@@ -73,6 +75,7 @@ impl Selector {
         find(slot)
     }
 
+    /// The command whose question has this selector.
     pub fn command(self) -> Command
         ensures { λ r. ⌜ r ≡ command-of self ⌝ }
     {
@@ -85,6 +88,7 @@ impl Selector {
     }
 
     /// The byte that names the selector among those of its command; 0 for a ping.
+    /// The byte that names it in a question and its answer; 0 for a ping, which has none.
     pub fn byte(self) -> u8
         ensures { λ r. ⌜ r ≡ byte-of self ⌝ }
     {
@@ -97,6 +101,7 @@ impl Selector {
     }
 
     /// The ping, then the counters, the strings and the parameters, each in the order of their numbers.
+    /// The slot where its answer is filed.
     pub fn slot(self) -> u8
         ensures { λ r. ⌜ r ≡ slot-of self ⌝ }
     {

@@ -1,4 +1,5 @@
 //! Text in its 30 places: characters, and then zeros.
+
 ghost use mathlib.Core.Path.{_≡_};
 ghost use mathlib.Core.List.{_++_};
 ghost use Prim.Native.Nat.{ℕ, _<_, _≤_};
