@@ -45,7 +45,7 @@ pub enum Event {
 }
 
 /// The byte at a place, if there is one.
-pub(crate) fn byte_at(bytes: &[u8], at: usize) -> Option<u8>
+pub fn byte_at(bytes: &[u8], at: usize) -> Option<u8>
     ensures { λ r. ⌜ BySome r (drop at (now (bytes .entry)) ≡ []) (λ b. (at < length (now (bytes .entry))) × (drop at (now (bytes .entry)) ≡ b ∷ drop (at + 1) (now (bytes .entry)))) ⌝ }
 {
     if at < bytes.len() {

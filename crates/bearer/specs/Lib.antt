@@ -1,0 +1,5 @@
+pub mod Lines
+pub mod Bearing
+pub mod Held
+pub mod Cables
+pub mod Tapes
