@@ -59,3 +59,8 @@ Fetches before (Some b) after =
     × (line-of after .room ≡ line-of before .room + 1)
     × (line-of after .waiting ≡ line-of before .waiting)
     × (feed-room after ≡ feed-room before)
+
+-- a byte that is taken frees its place
+abbrev pub Frees : ℕ → Option ℕ → ℕ → Type 0
+Frees before None after = after ≡ before
+Frees before (Some b) after = after ≡ before + 1

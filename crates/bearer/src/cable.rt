@@ -6,7 +6,8 @@ use crate::ring::Ring;
 ghost use Prim.Native.Nat.{ℕ};
 ghost use mathlib.Core.List.{[]};
 ghost use mathlib.Core.Path.{_≡_};
-ghost use Rattle.bearer.specs.Cables.{line-of, ends-of, Feeds, Fetches};
+ghost use Rattle.bearer.specs.Cables.{line-of, feed-room, ends-of, Feeds, Fetches, Frees};
+ghost use Rattle.bearer.specs.Lines.{Takes, Sends, exact-fall};
 
 /// Why bytes are not fed; the discriminant is the refusal's number.
 #[derive(Clone, Copy)]
@@ -55,11 +56,17 @@ impl Cable {
 pub impl Bearer for Cable as CableBearer {
     ghost state = { line-of };
 
-    fn next(&mut self) -> Option<u8> {
+    fn next(&mut self) -> Option<u8>
+        ensures taken { λ r. ⌜ Takes (line-of (now (self .entry))) r (line-of (now (self .exit))) ⌝ }
+        ensures places { λ r. ⌜ Frees (feed-room (now (self .entry))) r (feed-room (now (self .exit))) ⌝ }
+    {
         self.inward.pop()
     }
 
-    fn send(&mut self, bytes: &[u8]) -> Result<(), NoRoom> {
+    fn send(&mut self, bytes: &[u8]) -> Result<(), NoRoom>
+        ensures sent { λ r. ⌜ Sends exact-fall (now (bytes .entry)) (line-of (now (self .entry))) r (line-of (now (self .exit))) ⌝ }
+        ensures places { λ _. ⌜ feed-room (now (self .exit)) ≡ feed-room (now (self .entry)) ⌝ }
+    {
         if bytes.len() > self.room() {
             return Err(NoRoom);
         }
