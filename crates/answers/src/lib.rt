@@ -1,4 +1,5 @@
 //! What the console answers to a line of a script.
+#![tactic(auto)]
 
 mod frames;
 mod lines;

@@ -3,7 +3,7 @@
 ghost use Rattle.std.specs.Prelude.{◌≡◌, Some, ◌≢◌};
 ghost use Rattle.asking.specs.Putting.{Put};
 ghost use Rattle.numbering.specs.Exactly.{Exactly};
-ghost use Rattle.asking.specs.Questions.{Asks, «question_command», «question_data»};
+ghost use Rattle.asking.specs.Questions.{Asks, question_command, question_data};
 
 use crate::buffer::put;
 use crate::selector::Selector;

@@ -2,8 +2,8 @@
 
 ghost use Rattle.std.specs.Prelude.{◌≡◌, ◌+◌, ◌-◌, ◌≤◌, true, is_some, if◌then◌else◌, nat_lt};
 ghost use Rattle.numbering.specs.Exactly.{Exactly, Iff};
-ghost use Rattle.numbering.specs.Numbered.{«command_number»};
-ghost use Rattle.asking.specs.Selectors.{«command_of», «byte_of», «slot_of», rank, «SlotsApart»};
+ghost use Rattle.numbering.specs.Numbered.{command_number};
+ghost use Rattle.asking.specs.Selectors.{command_of, byte_of, slot_of, rank, «SlotsApart»};
 
 use numbering::{Command, Energy, Parameter, TextField};
 

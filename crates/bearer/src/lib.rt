@@ -1,4 +1,5 @@
 //! Bearers: any line that bytes cross.
+#![tactic(auto)]
 
 pub mod cable;
 mod ring;

@@ -1,4 +1,5 @@
 //! The book: what a post's two files are saved as.
+#![tactic(auto)]
 
 mod filing;
 mod parts;

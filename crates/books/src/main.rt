@@ -1,4 +1,5 @@
 //! Writes books, damages them and reads them, and prints what comes of each.
+#![tactic(auto)]
 
 use book::{read_book, write_book};
 use forms::kinds::{Meter, Reading, Standing};

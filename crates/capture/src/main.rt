@@ -1,4 +1,5 @@
 //! Plays a recorded capture through a cable and through a tape, and prints what is heard on each.
+#![tactic(auto)]
 
 use bearer::cable::Cable;
 use bearer::tape::Tape;

@@ -1,4 +1,5 @@
 //! The workshop's console: a script on standard input, one line of answer for each command on standard output.
+#![tactic(auto)]
 
 use answers::answer_line;
 use std::io;

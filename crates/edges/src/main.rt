@@ -1,4 +1,5 @@
 //! Tries the edges of the packet layer, and prints what comes of each.
+#![tactic(auto)]
 
 use std::alloc::{AllocError, Global};
 use std::io;

@@ -1,4 +1,5 @@
 //! Closed examples: a frame that is fed to a cable or captured on a tape is heard, and what a tape leaves with the caller.
+#![tactic(auto)]
 
 ghost use Rattle.std.specs.Prelude.{◌≡◌, ℕ};
 ghost use Rattle.heard.specs.Examples.{Hears, Left, ping};

@@ -1,4 +1,5 @@
 //! The numbers of a saved book: unsigned LEB128, cut at 32 bits, in the shortest spelling only.
+#![tactic(auto)]
 
 mod cause;
 mod number;

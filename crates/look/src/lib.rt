@@ -1,9 +1,10 @@
 //! A whole body, read as what it says.
+#![tactic(auto)]
 
 ghost use Rattle.std.specs.Prelude.{◌≡◌};
 ghost use Rattle.wire.specs.Fields.{content};
 ghost use Rattle.numbering.specs.Exactly.{Exactly};
-ghost use Rattle.look.specs.Looks.{Shows, Looked, Placed, «refusal_number»};
+ghost use Rattle.look.specs.Looks.{Shows, Looked, Placed, refusal_number};
 
 use asking::question::Question;
 use numbering::Command;

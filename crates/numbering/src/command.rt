@@ -2,7 +2,7 @@
 
 ghost use Rattle.std.specs.Prelude.{◌≡◌};
 ghost use Rattle.numbering.specs.Exactly.{Exactly};
-ghost use Rattle.numbering.specs.Numbered.{«command_number»};
+ghost use Rattle.numbering.specs.Numbered.{command_number};
 
 /// What a frame is about.
 #[derive(Clone, Copy)]

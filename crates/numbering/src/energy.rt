@@ -2,7 +2,7 @@
 
 ghost use Rattle.std.specs.Prelude.{◌≡◌};
 ghost use Rattle.numbering.specs.Exactly.{Exactly};
-ghost use Rattle.numbering.specs.Numbered.{«energy_number»};
+ghost use Rattle.numbering.specs.Numbered.{energy_number};
 
 /// The type of a counter.
 #[derive(Clone, Copy)]

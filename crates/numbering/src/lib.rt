@@ -1,4 +1,5 @@
 //! The numbers that stand in a frame for commands, energies, text fields, parameters, relays and positions.
+#![tactic(auto)]
 
 mod command;
 mod energy;

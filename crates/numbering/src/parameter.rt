@@ -2,7 +2,7 @@
 
 ghost use Rattle.std.specs.Prelude.{◌≡◌};
 ghost use Rattle.numbering.specs.Exactly.{Exactly};
-ghost use Rattle.numbering.specs.Numbered.{«parameter_number»};
+ghost use Rattle.numbering.specs.Numbered.{parameter_number};
 ghost use Rattle.numbering.specs.Parameters.{allowed};
 
 /// A parameter of the meter.

@@ -2,7 +2,7 @@
 
 ghost use Rattle.std.specs.Prelude.{◌≡◌};
 ghost use Rattle.numbering.specs.Exactly.{Exactly};
-ghost use Rattle.numbering.specs.Numbered.{«position_number»};
+ghost use Rattle.numbering.specs.Numbered.{position_number};
 
 /// To close or to open a relay.
 #[derive(Clone, Copy)]

@@ -2,7 +2,7 @@
 
 ghost use Rattle.std.specs.Prelude.{◌≡◌};
 ghost use Rattle.numbering.specs.Exactly.{Exactly};
-ghost use Rattle.numbering.specs.Numbered.{«relay_number»};
+ghost use Rattle.numbering.specs.Numbered.{relay_number};
 
 /// A relay that can be switched.
 #[derive(Clone, Copy)]

@@ -2,7 +2,7 @@
 
 ghost use Rattle.std.specs.Prelude.{◌≡◌};
 ghost use Rattle.numbering.specs.Exactly.{Exactly};
-ghost use Rattle.numbering.specs.Numbered.{«field_number»};
+ghost use Rattle.numbering.specs.Numbered.{field_number};
 
 /// A subscriber string.
 #[derive(Clone, Copy)]

@@ -1,4 +1,5 @@
 //! One ordered file for every kind of record that has a key.
+#![tactic(auto)]
 
 mod key;
 mod places;

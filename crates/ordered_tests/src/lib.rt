@@ -1,4 +1,5 @@
 //! Tests of the ordered table, with a number, a pair and a triple for a key.
+#![tactic(auto)]
 
 pub mod keys;
 

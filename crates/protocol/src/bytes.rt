@@ -1,7 +1,7 @@
 //! Numbers of several bytes, the lowest byte first.
 
 ghost use Rattle.std.specs.Prelude.{◌≡◌, ◌+◌, ◌≤◌, length, take, drop};
-ghost use Rattle.protocol.specs.Bytes.{«low_first»};
+ghost use Rattle.protocol.specs.Bytes.{low_first};
 
 /// The number of two bytes that stands at `at`.
 pub(crate) fn half_at(bytes: &[u8], at: usize) -> u16

@@ -1,9 +1,9 @@
 //! The values of a counter, as an answer carries them behind the counter's type.
 
 ghost use Rattle.std.specs.Prelude.{◌≡◌, ◌∷◌, length, MatchBool};
-ghost use Rattle.protocol.specs.Counting.{Fit, «counters_bytes»};
+ghost use Rattle.protocol.specs.Counting.{Fit, counters_bytes};
 ghost use Rattle.numbering.specs.Exactly.{Exactly};
-ghost use Rattle.numbering.specs.Numbered.{«energy_number»};
+ghost use Rattle.numbering.specs.Numbered.{energy_number};
 
 use crate::bytes::{half_at, word_at, word_bytes};
 use numbering::Energy;

@@ -4,8 +4,8 @@ ghost use Rattle.std.specs.Prelude.{◌≡◌, ◌∷◌, Some};
 ghost use Rattle.protocol.specs.Answers.{Kept, Read, «RecordsApart»};
 ghost use Rattle.asking.specs.Putting.{Put};
 ghost use Rattle.numbering.specs.Exactly.{Exactly};
-ghost use Rattle.numbering.specs.Numbered.{«field_number»};
-ghost use Rattle.protocol.specs.Records.{«selector_of», «data_of»};
+ghost use Rattle.numbering.specs.Numbered.{field_number};
+ghost use Rattle.protocol.specs.Records.{selector_of, data_of};
 
 use crate::answer::Answer;
 use crate::counters::Counters;

@@ -1,4 +1,5 @@
 //! What the crates `asking`, `protocol` and `look` do on examples.
+#![tactic(auto)]
 
 use asking::question::Question;
 use asking::selector::Selector;

@@ -1,4 +1,5 @@
 //! Reads the lines of a script into commands.
+#![tactic(auto)]
 
 mod command;
 mod reading;

@@ -1,4 +1,5 @@
 //! Lines good and bad, and answers, as tests.
+#![tactic(auto)]
 
 #[cfg(test)]
 mod tests {

@@ -1,4 +1,5 @@
 //! Answers as text: bytes in pairs of hexadecimal digits, numbers in decimal, and the words of every refusal.
+#![tactic(auto)]
 
 mod phrases;
 mod writing;

@@ -1,4 +1,5 @@
 //! The words of a line, and what a word says: a number, a name, bytes.
+#![tactic(auto)]
 
 mod bytes;
 mod names;

@@ -1,4 +1,5 @@
 //! The packet layer of the meters' line: CRC8, frames and the receiver.
+#![tactic(auto)]
 
 pub mod body;
 pub mod crc;

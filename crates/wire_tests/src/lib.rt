@@ -1,4 +1,5 @@
 //! What the packet layer does on examples.
+#![tactic(auto)]
 
 #[cfg(test)]
 mod tests {

@@ -1,4 +1,5 @@
 //! Worked examples of the rules, as one theorem that the checker computes from the definitions.
+#![tactic(auto)]
 
 ghost use Rattle.std.specs.Prelude.{◌≡◌};
 ghost use Rattle.worked.specs.Examples.{Examples};
