@@ -7,5 +7,5 @@ use Rattle.script.specs.Shown.{call_shown, answered, direction_shown, verb_form}
 use Rattle.script.proofs.Parsing.{empty_word}
 use Rattle.script.proofs.reading.is_remark.Goals as goal
 
-pub returns-else-not-is-empty : goal.returns-else-not-is-empty
-returns-else-not-is-empty c = ap not c.if-not-is-empty.false ∙ empty_word c.args.word.now (eqb-true _ 0 (sym c.if-not-is-empty.ensures))
+pub returns-else-not-is_empty : goal.returns-else-not-is_empty
+returns-else-not-is_empty c = ap not c.if-not-is_empty.false ∙ empty_word c.args.word.now (eqb-true _ 0 (sym c.if-not-is_empty.ensures))
