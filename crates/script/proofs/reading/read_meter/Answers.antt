@@ -1,8 +1,7 @@
-use Rattle.std.proofs.Common.{◌≡◌, ℕ, [], ◌∷◌, Some, None, codes, refl, ap, ◌∙◌, arith}
+use Rattle.std.proofs.Common.{[], ◌∷◌, ap, ◌∙◌, arith}
 use Rattle.std.specs.Option.{option_map}
 use Rattle.std.proofs.lemmas.Bool.{ltb-true, ltb-false}
-use Rattle.script.specs.Grammar.{Kind, Body, number, four, name, direction, num, raw, called, body, said, enrol}
-use Rattle.script.specs.Shown.{call_shown}
+use Rattle.script.specs.Grammar.{num, enrol}
 use Rattle.script.proofs.Parsing.{wrong_count, by_all, one_number}
 use Rattle.script.proofs.reading.read_meter.Goals as goal
 

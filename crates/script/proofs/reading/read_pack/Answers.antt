@@ -1,9 +1,7 @@
-use Rattle.std.proofs.Common.{◌≡◌, not, [], ◌∷◌, Some, None, vec_items, sym, refl, ap, ◌∙◌, arith}
+use Rattle.std.proofs.Common.{[], ◌∷◌, Some, None, vec_items, sym, refl, ap, ◌∙◌}
 use Rattle.std.specs.Option.{option_map}
-use Rattle.std.proofs.lemmas.Bool.{ltb-true, ltb-false, eqb-true}
-use Rattle.tokens.specs.Names.{letters_of}
-use Rattle.script.specs.Grammar.{num, raw, called, body, said, commanded, said_by, number, calling, pack}
-use Rattle.script.specs.Shown.{call_shown, answered, direction_shown, verb_form}
+use Rattle.script.specs.Grammar.{num, raw, body, said, commanded, pack}
+use Rattle.script.specs.Shown.{direction_shown}
 use Rattle.script.proofs.Parsing.{too_few, by_split}
 use Rattle.script.proofs.reading.read_pack.Goals as goal
 

@@ -1,9 +1,8 @@
-use Rattle.std.proofs.Common.{◌≡◌, ℕ, [], ◌∷◌, Some, None, refl, ap, ◌∙◌, arith}
+use Rattle.std.proofs.Common.{[], ◌∷◌, Some, None, refl, ap, ◌∙◌, arith}
 use Rattle.std.specs.Option.{option_map}
 use Rattle.std.proofs.lemmas.Bool.{ltb-true, ltb-false}
-use Rattle.tokens.specs.Names.{letters_of}
-use Rattle.script.specs.Grammar.{num, raw, called, body, said, commanded, silent}
-use Rattle.script.specs.Shown.{call_shown, answered, direction_shown}
+use Rattle.script.specs.Grammar.{num, said, silent}
+use Rattle.script.specs.Shown.{call_shown}
 use Rattle.script.proofs.Parsing.{wrong_count, by_all}
 use Rattle.script.proofs.reading.read_silent.Goals as goal
 

@@ -1,9 +1,9 @@
-use Rattle.std.proofs.Common.{◌≡◌, not, [], ◌∷◌, Some, None, vec_items, sym, refl, ap, ◌∙◌, arith}
+use Rattle.std.proofs.Common.{Some, None, sym, ap, ◌∙◌, arith}
 use Rattle.std.specs.Option.{option_map}
-use Rattle.std.proofs.lemmas.Bool.{ltb-true, ltb-false, eqb-true}
+use Rattle.std.proofs.lemmas.Bool.{ltb-true, ltb-false}
 use Rattle.tokens.specs.Names.{letters_of}
-use Rattle.script.specs.Grammar.{num, raw, called, body, said, commanded, said_by, number, calling, told}
-use Rattle.script.specs.Shown.{call_shown, answered, direction_shown, verb_form}
+use Rattle.script.specs.Grammar.{calling}
+use Rattle.script.specs.Shown.{call_shown, verb_form}
 use Rattle.script.proofs.Parsing.{none_held, by_name}
 use Rattle.script.proofs.reading.read_to_name.Goals as goal
 

@@ -1,9 +1,7 @@
-use Rattle.std.proofs.Common.{◌≡◌, not, [], ◌∷◌, Some, None, vec_items, sym, refl, ap, ◌∙◌, arith}
+use Rattle.std.proofs.Common.{Some, None, vec_items, sym, ap, ◌∙◌, arith}
 use Rattle.std.specs.Option.{option_map}
-use Rattle.std.proofs.lemmas.Bool.{ltb-true, ltb-false, eqb-true}
-use Rattle.tokens.specs.Names.{letters_of}
-use Rattle.script.specs.Grammar.{num, raw, called, body, said, commanded, said_by, number, calling, unpack}
-use Rattle.script.specs.Shown.{call_shown, answered, direction_shown, verb_form}
+use Rattle.std.proofs.lemmas.Bool.{ltb-true, ltb-false}
+use Rattle.script.specs.Grammar.{num, said, commanded, said_by, number, unpack}
 use Rattle.script.proofs.Parsing.{none_held, by_first}
 use Rattle.script.proofs.reading.read_unpack.Goals as goal
 

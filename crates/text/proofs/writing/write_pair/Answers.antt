@@ -1,6 +1,4 @@
-use Rattle.std.proofs.Common.{[], ◌∷◌, ◌++◌, string_bytes, sym, refl, ap, ◌∙◌, arith}
-use Rattle.std.proofs.lemmas.Bool.{ltb-false}
-use Rattle.text.specs.Answers.{two_digits}
+use Rattle.std.proofs.Common.{[], ◌∷◌, string_bytes, ap, ◌∙◌}
 use Rattle.text.proofs.Printing.{two_pushed}
 use Rattle.text.proofs.writing.write_pair.Goals as goal
 

@@ -1,4 +1,4 @@
-use Rattle.std.proofs.Common.{◌∷◌, string_bytes, decimal, sym, refl, ap, ◌∙◌}
+use Rattle.std.proofs.Common.{string_bytes}
 use Rattle.text.specs.Answers.{two_digits}
 use Rattle.text.proofs.Printing.{wrote_more, wrote_all}
 use Rattle.text.proofs.writing.write_solid.Goals as goal

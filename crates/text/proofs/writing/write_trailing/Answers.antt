@@ -1,5 +1,4 @@
-use Rattle.std.proofs.Common.{◌∷◌, ◌++◌, string_bytes, sym, refl, ap, ◌∙◌, arith}
-use Rattle.std.proofs.lemmas.Bool.{ltb-false}
+use Rattle.std.proofs.Common.{◌∷◌, ◌++◌, string_bytes, ap, ◌∙◌, arith}
 use Rattle.text.specs.Answers.{two_digits}
 use Rattle.text.proofs.Printing.{wrote_more, wrote_all, after_one}
 use Rattle.text.proofs.writing.write_trailing.Goals as goal
