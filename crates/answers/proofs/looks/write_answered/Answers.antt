@@ -1,4 +1,4 @@
-use Rattle.std.proofs.Common.{◌++◌, string_bytes, codes, ap, ◌∙◌, rules}
+use Rattle.std.proofs.Common.{◌++◌, string_bytes, codes, ◌∙◌, rules}
 use Rattle.text.proofs.Printing.{then_more}
 use Rattle.wire.proofs.Writing.{all_places}
 use Rattle.answers.specs.Spoken.{counted}
