@@ -91,7 +91,7 @@ mod tests {
         match read_line(rt.alloc(), b"pack answer 1 2 3 01020304 64 aAbB 0c")? {
             Line::Command(Command::Pack { four, data, .. }) => {
                 assert!(rt; four == [1, 2, 3, 4]);
-                assert!(rt; data.as_slice() == [0xAA, 0xBB, 0x0C]);
+                assert!(rt; data.as_slice() == [0xAA, 0xBB, 0x0C].as_slice());
                 Ok(())
             }
             _ => Err(Fail::new("no pack")),
