@@ -2,7 +2,7 @@
 use Rattle.std.specs.Prelude.{◌≡◌, ℕ, true, List, [], ◌∷◌, Some, None}
 use Rattle.book.specs.declared.refusal.ReadRefusal.TheVariants.{Broken}
 use Rattle.book.specs.Entries.{Entry, book_of}
-use Rattle.book.specs.Judging.{granted, refused as not-read, judged, read_number}
+use Rattle.book.specs.Judging.{granted, refused as not_read, judged, read_number}
 use Rattle.forms.specs.declared.kinds.Standing.{Standing}
 use Rattle.leb128.specs.declared.cause.Cause.TheVariants.{LongSpelling, TooLarge, NoStanding}
 use Rattle.leb128.specs.Causes.{cause_number}
@@ -51,4 +51,4 @@ pub record Examples : Type 0 where
   pub warm_book : book_of warm_meter ≡ 0x01 ∷ 0x05 ∷ 0x01 ∷ 0x60 ∷ 0x00 ∷ 0x00 ∷ 0x01 ∷ 0x1B ∷ 0x15 ∷ []
   pub warm_book_read : judged 128 1024 (0x01 ∷ 0x05 ∷ 0x01 ∷ 0x60 ∷ 0x00 ∷ 0x00 ∷ 0x01 ∷ 0x1B ∷ 0x15 ∷ []) ≡ granted warm_meter
   pub without_standing :
-      (judged 128 1024 (0x01 ∷ 0x05 ∷ 0x00 ∷ 0x01 ∷ 0x1B ∷ 0x15 ∷ []) ≡ not-read (Broken NoStanding)) × (read_number (Broken NoStanding) ≡ 53)
+      (judged 128 1024 (0x01 ∷ 0x05 ∷ 0x00 ∷ 0x01 ∷ 0x1B ∷ 0x15 ∷ []) ≡ not_read (Broken NoStanding)) × (read_number (Broken NoStanding) ≡ 53)
