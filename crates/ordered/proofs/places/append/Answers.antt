@@ -15,7 +15,7 @@ returns g c =
     let e : take (end - 0) ps ≡ take held ps = front (end - 0) held ps (omega (arith, c.min-end.ensures)) in
     λ s.
     let q : held ≡ end = omega (arith, s.fits, c.min-end.ensures) in
-    let l = rw (c.key.ensures, e) at c.if-not-is-above.ensures in
+    let l = rw (c.key.ensures, e) at c.if-not-is_above.ensures in
     let n : length (take held ps) ≡ held = omega (arith, s.fits, length-take held ps) in
     let at : Located p (p r) (take held ps) (Err held) = subst (λ (m : ℕ). Located p (p r) (take held ps) (Err m)) n (l s.rising refl) in
     let same : after ≡ set ps held r = c.replace.ensures ∙ ap (λ i. set ps i r) (sym q) in
