@@ -1,6 +1,6 @@
-use Rattle.std.proofs.Common.{◌≡◌, ◌+◌, ◌<◌, true, false, length, sym, ap, ◌∙◌, arith}
+use Rattle.std.proofs.Common.{◌≡◌, ◌<◌, length, sym, ap, ◌∙◌, arith}
 use Rattle.ordered.specs.Ranks.{within}
-use Rattle.ordered.proofs.Tabling.{Turn, passed, moved, kept}
+use Rattle.ordered.proofs.Tabling.{passed, moved, kept}
 use Rattle.ordered.proofs.places.remove.Goals as goal
 use Rattle.ordered.proofs.places.remove.Goals.{then-not-is_within, else-not-is_within}
 
