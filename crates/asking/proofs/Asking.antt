@@ -1,5 +1,5 @@
 -- Questions and their data.
-use Rattle.std.proofs.Common.{◌≡◌, ℕ, ◌+◌, ◌-◌, ◌<◌, ◌≤◌, List, [], ◌∷◌, length, get_or, Some, None, Option, sym, refl, ap, ◌∙◌, arith}
+use Rattle.std.proofs.Common.{◌≡◌, ℕ, ◌+◌, List, [], ◌∷◌, length, get_or, Some, None, Option, sym, refl, ap, ◌∙◌, arith}
 use Rattle.numbering.specs.declared.relay.Relay.{Relay}
 use Rattle.numbering.specs.declared.relay.Relay.TheVariants.{R0, R1, R2, R3, R4, R5, R6, R7, R8}
 use Rattle.numbering.specs.declared.position.Position.{Position}
@@ -11,7 +11,7 @@ use Rattle.asking.specs.declared.question.Question.TheVariants.{Read, Switch}
 use Rattle.numbering.specs.Exactly.{Exactly}
 use Rattle.numbering.specs.Numbered.{command_number, relay_number, position_number}
 use Rattle.asking.specs.Questions.{Asks, question_command, question_data, selector_data}
-use Rattle.asking.specs.Selectors.{command_of, byte_of, slot_of, rank}
+use Rattle.asking.specs.Selectors.{command_of, byte_of, rank}
 use Rattle.asking.proofs.Slotting.{slots_apart}
 
 pub one_place : (bs : List ℕ) → length bs ≡ 1 → get_or bs 0 0 ∷ [] ≡ bs

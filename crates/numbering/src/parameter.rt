@@ -1,9 +1,9 @@
 //! The parameters of the meter, their numbers and the values that they take.
 
-ghost use Rattle.std.specs.Prelude.{◌≡◌};
+ghost use Rattle.std.specs.Prelude.{◌≡◌, MatchBool};
 ghost use Rattle.numbering.specs.Exactly.{Exactly};
 ghost use Rattle.numbering.specs.Numbered.{parameter_number};
-ghost use Rattle.numbering.specs.Parameters.{allowed};
+ghost use Rattle.numbering.specs.Parameters.{Allowed, allowed};
 
 /// A parameter of the meter.
 #[derive(Clone, Copy)]
@@ -41,7 +41,8 @@ impl Parameter {
 
     /// Whether the parameter takes this value: the mode of the inputs takes two, any other each.
     pub fn allows(self, value: u16) -> bool
-        ensures { result ≡ allowed self value }
+        ensures takes { MatchBool result (Allowed self value) (Allowed self value → ⊥) }
+        ensures test { result ≡ allowed self value }
     {
         match self {
             Parameter::InputMode => value == 0 || value == 0x000F,

@@ -9,8 +9,8 @@ returns c =
     let bs = c.args.bytes.now in
     let l : length bs ≡ 2 = search rules in
     let f = two_places bs l in
-    let r = c.in-ok-relay.ensures in
-    let p = c.in-ok-position.ensures in
-    let x = Switch c.in-ok-relay.relay c.in-ok-position.position in
+    let r = c.in_ok-relay.ensures in
+    let p = c.in_ok-position.ensures in
+    let x = Switch c.in_ok-relay.relay c.in_ok-position.position in
     let h : Asks 0x3A bs x = record { command = refl; bytes = cc } in
     record { reads = h; back = asks_back 0x3A bs (Some x) h }
