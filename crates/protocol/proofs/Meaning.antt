@@ -1,12 +1,12 @@
 -- What data of one command say, by their first byte and the rest.
-use Rattle.std.proofs.Common.{◌≡◌, ℕ, ◌+◌, ◌-◌, ◌<◌, ◌≤◌, List, [], ◌∷◌, ◌++◌, length, get_or, take, drop, sym, refl, ap, ◌∙◌, subst, arith}
+use Rattle.std.proofs.Common.{◌≡◌, ℕ, ◌-◌, ◌<◌, List, ◌∷◌, length, get_or, take, drop, sym, ap, ◌∙◌, subst, arith}
 use Rattle.std.proofs.lemmas.List.{take_rest, drop_more, take_all, length-drop}
 use Rattle.std.proofs.lemmas.Slice.{first_rest}
 use Rattle.numbering.specs.declared.command.Command.TheVariants as command
 use Rattle.protocol.specs.declared.counters.Counters.{Counters}
 use Rattle.protocol.specs.declared.answer.Answer.{Answer}
 use Rattle.protocol.specs.declared.answer.Answer.TheVariants.{Ping, Counter, Text, Parameter, Relay}
-use Rattle.protocol.specs.Answers.{Says, Means}
+use Rattle.protocol.specs.Answers.{Means}
 use Rattle.protocol.specs.Counting.{counters_bytes, Fit}
 use Rattle.numbering.specs.Numbered.{command_number}
 use Rattle.protocol.specs.Text.{IsText}

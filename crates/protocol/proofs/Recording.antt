@@ -1,8 +1,7 @@
 -- Records and the data that say them.
-use Rattle.std.proofs.Common.{◌≡◌, ℕ, ◌+◌, ◌^◌, ◌<◌, ◌≤◌, List, [], ◌∷◌, ◌++◌, length, get_or, take, drop, Some, None, Option, sym, refl, ap, ◌∙◌, subst, arith}
+use Rattle.std.proofs.Common.{◌≡◌, ℕ, ◌+◌, ◌^◌, ◌<◌, List, [], ◌∷◌, length, get_or, take, drop, Some, None, Option, sym, refl, ap, ◌∙◌, subst, arith}
 use Rattle.std.specs.List.{flat_map}
 use Rattle.numbering.specs.declared.command.Command.{Command}
-use Rattle.numbering.specs.declared.command.Command.TheVariants as command
 use Rattle.protocol.specs.declared.counters.Counters.{Counters}
 use Rattle.asking.specs.declared.selector.Selector.{Selector}
 use Rattle.asking.specs.declared.selector.Selector.TheVariants as selector
@@ -17,7 +16,6 @@ use Rattle.numbering.specs.Exactly.{Exactly}
 use Rattle.numbering.specs.Numbered.{command_number}
 use Rattle.protocol.specs.Records.{selector_of, data_of, Lawful}
 use Rattle.asking.specs.Selectors.{command_of, slot_of, rank}
-use Rattle.protocol.specs.Text.{IsText, padded}
 use Rattle.protocol.proofs.Numbering.{number_low_first}
 use Rattle.asking.proofs.Slotting.{slots_apart}
 
@@ -80,7 +78,7 @@ counters_back x h =
     let v = number_low_first 2 x.voltage_ratio h.voltage in
     let a = number_low_first 2 x.current_ratio h.current in
     let f = number_low_first 4 x.full h.full in
-    let u = number_low_first 4 x.in_use h.in-use in
+    let u = number_low_first 4 x.in_use h.in_use in
     let t = four_words (λ bs. number_of (take 4 bs) ∷ number_of (take 4 (drop 4 bs)) ∷ number_of (take 4 (drop 8 bs)) ∷ number_of (take 4 (drop 12 bs)) ∷ []) x.tariffs h.four h.tariffs (λ bs. refl) in
     λ i. record { config = x.config; voltage_ratio = v i; current_ratio = a i; full = f i; in_use = u i; tariffs = t i }
 

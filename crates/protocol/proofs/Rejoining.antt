@@ -1,5 +1,5 @@
 -- A counter's bytes, taken apart and put together again.
-use Rattle.std.proofs.Common.{◌≡◌, ℕ, zero, suc, ◌+◌, ◌*◌, ◌<◌, ◌≤◌, Bool, true, false, eqb, List, [], ◌∷◌, ◌++◌, length, get_or, take, drop, set, replicate, MatchBool, sym, refl, ap, ◌∙◌, arith}
+use Rattle.std.proofs.Common.{◌≡◌, ℕ, ◌+◌, ◌*◌, Bool, true, false, eqb, List, [], ◌∷◌, ◌++◌, length, get_or, take, drop, set, replicate, MatchBool, sym, refl, ap, ◌∙◌, arith}
 use borrow.Rule.Slice.PartMut.{put_mid}
 use Rattle.std.specs.List.{flat_map}
 use Rattle.std.proofs.lemmas.Bool.{eqb-true, eqb-false}
@@ -7,7 +7,6 @@ use Rattle.std.proofs.lemmas.List.{length-append, take-append-drop, drop-drop, d
 use Rattle.protocol.specs.declared.counters.Counters.{Counters}
 use Rattle.protocol.specs.Bytes.{low_first}
 use Rattle.protocol.specs.Counting.{counters_bytes, Fit}
-use Rattle.protocol.proofs.Numbering.{length_low_first}
 
 -- a part of k bytes at i, and what is put together behind it
 piece : (bs part rest : List ℕ) (k i j : ℕ) → i + k ≡ j → part ≡ take k (drop i bs) → rest ≡ drop j bs → part ++ rest ≡ drop i bs

@@ -1,12 +1,19 @@
 -- Text and its zeros.
-use Rattle.std.proofs.Common.{◌≡◌, ℕ, zero, suc, ◌+◌, ◌-◌, ◌<◌, ◌≤◌, List, [], ◌∷◌, ◌++◌, length, get_or, take, drop, replicate, sym, refl, ap, ◌∙◌, subst, ⊎_elim, le_refl, lt_of_lt_of_le, eq-or-lt_of_le, arith}
+use Rattle.std.proofs.Common.{◌≡◌, ℕ, suc, ◌+◌, ◌-◌, ◌<◌, ◌≤◌, true, List, [], ◌∷◌, ◌++◌, length, get_or, take, drop, replicate, sym, refl, ap, ◌∙◌, subst, ⊎_elim, le_refl, lt_of_lt_of_le, eq-or-lt_of_le, arith}
 use Rattle.std.proofs.lemmas.List.{length-append, length-replicate, length-take-le, length-drop, take-append-drop, get_or_append_left, get_or-append_right, get_or-replicate, get_or-drop, get_or-take}
-use Rattle.std.proofs.lemmas.Bool.{cases_lt, false≢true}
-use Rattle.protocol.specs.Text.{Character, Characters, padded, IsText}
+use Rattle.std.proofs.lemmas.Bool.{cases_lt}
+use Rattle.std.proofs.lemmas.Bool.Decides.{nat_tests}
+use Rattle.protocol.specs.Text.{character, Character, Characters, padded, IsText}
 
 -- what follows from it is all that the other laws know of characters
 zero_no_character : Character 0 → ⊥
-zero_no_character = false≢true
+zero_no_character h = omega arith
+
+pub character_true : (b : ℕ) → Character b → character b ≡ true
+character_true b h = grind (arith, nat_tests, h)
+
+pub character_told : (b : ℕ) → character b ≡ true → Character b
+character_told b h = grind (arith, nat_tests, h)
 
 pub length_padded : (cs : List ℕ) → length cs ≤ 30 → length (padded cs) ≡ 30
 length_padded cs h = omega (arith, length-append cs (replicate (30 - length cs) 0), length-replicate {A = ℕ} (30 - length cs) 0)

@@ -1,13 +1,14 @@
 -- Text: characters in 30 places, with zeros behind them.
-use Rattle.std.specs.Prelude.{◌≡◌, ℕ, ◌+◌, ◌-◌, ◌<◌, ◌≤◌, Bool, true, ◌&&◌, List, ◌++◌, length, replicate, Some, None, Option, nat_le, slice_index}
+use Rattle.std.specs.Prelude.{◌≡◌, ℕ, ◌-◌, ◌<◌, ◌≤◌, Bool, ◌&&◌, List, ◌++◌, length, replicate, Some, None, Option, nat_le, slice_index}
 use Rattle.std.specs.Borrow.{Bor}
 
--- whether text may hold a byte
+-- the bytes that text may hold
+abbrev pub Character : ℕ → Type 0
+Character b = (0x20 ≤ b) × (b ≤ 0x7E)
+
+-- the same as a test
 abbrev pub character : ℕ → Bool
 character b = nat_le 0x20 b && nat_le b 0x7E
-
-abbrev pub Character : ℕ → Type 0
-Character b = character b ≡ true
 
 -- at most 30 bytes, each of them a character
 pub record Characters (cs : List ℕ) : Type 0 where

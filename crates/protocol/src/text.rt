@@ -6,7 +6,8 @@ ghost use Rattle.protocol.specs.Text.{character, Character, padded, Shown};
 
 /// Whether text may hold this byte.
 pub fn is_character(byte: u8) -> bool
-    ensures { result ≡ character byte }
+    ensures holds { MatchBool result (Character byte) (Character byte → ⊥) }
+    ensures test { result ≡ character byte }
 {
     matches!(byte, 0x20..=0x7E)
 }

@@ -10,5 +10,5 @@ returns c =
     record {
       lawful = (omega arith, search rules);
       command = refl;
-      bytes = rebuilt bs (low_first 2 c.half-at-value.result) _ (omega arith) c.in-ok-parameter.ensures (c.half-at-value.ensures ∙ ap (λ m. take m (drop 1 bs)) two);
+      bytes = rebuilt bs (low_first 2 c.half_at-value.result) _ (omega arith) c.in_ok-parameter.ensures (c.half_at-value.ensures ∙ ap (λ m. take m (drop 1 bs)) two);
     }
