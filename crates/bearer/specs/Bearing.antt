@@ -1,5 +1,5 @@
 -- What a receiver makes of a line.
-use Rattle.std.specs.Prelude.{◌≡◌, ℕ}
+use Rattle.std.specs.Prelude.{◌≡◌}
 use Rattle.wire.specs.Receiving.{Receiving, Outcome, run}
 use Rattle.bearer.specs.Lines.{Line, with_waiting}
 

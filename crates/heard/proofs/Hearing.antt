@@ -1,7 +1,7 @@
 -- The ping, heard.
 use Rattle.std.proofs.Common.{◌≡◌, ℕ, List, Some, None, Option, sym, refl, ap, ◌∙◌, arith}
 use Rattle.wire.specs.Crc.{crc_from, eight_shifts}
-use Rattle.wire.specs.Receiving.{Receiving, Outcome, hunting, nothing, fault, good, run}
+use Rattle.wire.specs.Receiving.{Receiving, hunting, good, run}
 use Rattle.wire.specs.Receivers.{outcome}
 use Rattle.wire.specs.declared.receiver.Event.{Event}
 use Rattle.wire.specs.declared.receiver.Event.TheVariants.{Fault, Good}

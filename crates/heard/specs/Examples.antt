@@ -1,7 +1,7 @@
 -- What the examples show.
-use Rattle.std.specs.Prelude.{◌≡◌, ℕ, ◌<◌, ◌≤◌, List, [], ◌∷◌, ◌++◌, length, drop, Some, None, Ok, Err, Option, Result}
+use Rattle.std.specs.Prelude.{◌≡◌, ℕ, ◌<◌, ◌≤◌, List, [], ◌∷◌, ◌++◌, length, drop, Some, Ok, Err, Option, Result}
 use Rattle.wire.specs.declared.receiver.Event.{Event}
-use Rattle.wire.specs.declared.receiver.Event.TheVariants.{Fault, Good}
+use Rattle.wire.specs.declared.receiver.Event.TheVariants.{Good}
 
 -- the body of the question of a ping to the meter at address 5, and the frame around it
 abbrev pub body : List ℕ

@@ -1,10 +1,10 @@
 -- A run over a stuffed body, and back: what a run that ends in a good frame was given.
-use Rattle.std.proofs.Common.{◌≡◌, ℕ, ◌+◌, ◌-◌, ◌<◌, ◌≤◌, Bool, true, false, cond, eqb, ltb, List, [], ◌∷◌, ◌++◌, length, take, drop, sym, refl, ap, ◌∙◌, subst, arith}
+use Rattle.std.proofs.Common.{◌≡◌, ℕ, ◌+◌, ◌<◌, ◌≤◌, Bool, true, false, cond, eqb, ltb, List, [], ◌∷◌, ◌++◌, length, sym, refl, ap, ◌∙◌, arith}
 use Rattle.std.proofs.lemmas.List.{append_assoc, append-nil, length-append}
-use Rattle.std.proofs.lemmas.Bool.{eqb-true, eq-eqb, lt-ltb, cond-true, cond-false}
+use Rattle.std.proofs.lemmas.Bool.{eqb-true, eq-eqb, lt-ltb, cond-true}
 use Rattle.wire.specs.Bodies.{verdict}
-use Rattle.wire.specs.Receiving.{Receiving, Outcome, Ran, hunting, marked, inside, escaped, nothing, fault, good, joined, closed, step, then_on, run}
-use Rattle.wire.specs.Framing.{Made, refused, made, stuffed_byte, stuffed, ended}
+use Rattle.wire.specs.Receiving.{Receiving, Outcome, hunting, marked, inside, escaped, nothing, fault, good, joined, closed, then_on, run}
+use Rattle.wire.specs.Framing.{refused, made, stuffed_byte, stuffed, ended}
 
 -- by cases on a test
 pub split : {A R : Type 0} (t : Bool) (x y : A) (P : A → Type 0) → P (cond t x y) → (t ≡ true → P x → R) → (t ≡ false → P y → R) → R

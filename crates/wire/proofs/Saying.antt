@@ -1,8 +1,8 @@
 -- A good body and what it says, each from the other.
-use Rattle.std.proofs.Common.{◌≡◌, ℕ, ◌+◌, ◌-◌, ◌*◌, ◌/◌, ◌%◌, ◌<◌, ◌≤◌, Bool, true, false, cond, eqb, ltb, leb, List, [], ◌∷◌, ◌++◌, length, get_or, take, drop, sym, refl, ap, ◌∙◌, subst, arith}
-use Rattle.std.proofs.lemmas.List.{append_assoc, append-nil, length-append, length-take, length-drop, take_all, take_at, take_more, take_rest, drop_more, drop_at, get_or-drop, get_or_at, same_from_push}
+use Rattle.std.proofs.Common.{◌≡◌, ℕ, ◌+◌, ◌-◌, ◌*◌, ◌/◌, ◌%◌, ◌<◌, ◌≤◌, Bool, cond, leb, List, [], ◌∷◌, ◌++◌, length, get_or, drop, sym, refl, ap, ◌∙◌, subst, arith}
+use Rattle.std.proofs.lemmas.List.{append_assoc, length-append, length-take, length-drop, take_all, take_at, take_more, take_rest, get_or_at, same_from_push}
 use Rattle.std.proofs.lemmas.Bool.Decides.{nat_tests}
-use Rattle.wire.specs.Bodies.{Content, Says, body_of, uncrced, verdict, leading, final, stated, behind, two_bytes, parameter_byte}
+use Rattle.wire.specs.Bodies.{Content, Says, body_of, uncrced, leading, final, stated, behind, parameter_byte}
 use Rattle.wire.specs.Crc.{crc_of}
 use Rattle.wire.proofs.Judging.{Good, good, verdict_good}
 use Rattle.wire.proofs.Writing.{places_from, spread, all_places}

@@ -1,10 +1,10 @@
 -- The round trips between frames and what they say.
-use Rattle.std.proofs.Common.{◌≡◌, ℕ, zero, suc, ◌+◌, ◌-◌, ◌<◌, ◌≤◌, Bool, true, false, cond, ◌&&◌, eqb, ltb, List, [], ◌∷◌, ◌++◌, length, get_or, take, drop, sym, refl, ap, ◌∙◌, subst, arith}
-use Rattle.std.proofs.lemmas.List.{take_all, take_rest}
-use Rattle.std.proofs.lemmas.Bool.{eqb-true, and_parts, ltb-false, le-ltb, cond-false, cond-true}
-use Rattle.wire.specs.Bodies.{Content, Says, body_of, behind}
-use Rattle.wire.specs.Receiving.{inside, run, good, hunting}
-use Rattle.wire.specs.Framing.{made, refused, stuffed_byte, stuffed, framed, frame_of, packed, unpacked, ended, begins}
+use Rattle.std.proofs.Common.{◌≡◌, ℕ, zero, suc, ◌<◌, ◌≤◌, true, cond, eqb, ltb, List, [], ◌∷◌, ◌++◌, length, get_or, sym, ap, ◌∙◌, subst, arith}
+use Rattle.std.proofs.lemmas.List.{take_rest}
+use Rattle.std.proofs.lemmas.Bool.{eqb-true, and_parts, le-ltb, cond-false}
+use Rattle.wire.specs.Bodies.{Content, body_of, behind}
+use Rattle.wire.specs.Receiving.{inside, run}
+use Rattle.wire.specs.Framing.{made, refused, stuffed, framed, frame_of, unpacked, ended, begins}
 use Rattle.wire.specs.Trips.{PacksAgain, UnpacksBack}
 use Rattle.wire.proofs.Running.{split, never, given, good_runs}
 use Rattle.wire.proofs.Saying.{said, said_length, own, own_length}

@@ -1,7 +1,7 @@
 -- Stuffing and frames; what pack and unpack answer.
-use Rattle.std.specs.Prelude.{◌≡◌, ℕ, ◌≤◌, Bool, true, false, cond, ◌&&◌, List, [], ◌∷◌, ◌++◌, length, take, drop, Ok, Err, Result, ◌==◌, nat_lt, slice_index}
+use Rattle.std.specs.Prelude.{◌≡◌, ℕ, ◌≤◌, Bool, cond, ◌&&◌, List, [], ◌∷◌, ◌++◌, length, take, drop, Ok, Err, Result, ◌==◌, nat_lt, slice_index}
 use Rattle.wire.specs.Bodies.{Content, body_of, behind}
-use Rattle.wire.specs.Receiving.{Receiving, Outcome, Ran, inside, run, nothing, fault, good}
+use Rattle.wire.specs.Receiving.{Outcome, Ran, inside, run, nothing, fault, good}
 
 -- stuffing keeps 0x55 and 0x73 out of a body: 0x55 becomes 0x73 0x11, and 0x73 becomes 0x73 0x22
 abbrev pub stuffed_byte : ℕ → List ℕ

@@ -4,9 +4,9 @@ use Rattle.wire.proofs.frame.header.Goals as goal
 
 pub returns : goal.returns
 returns c =
-    let d0 = ap (λ v. get_or v 0 0) c.low-first.ensures in
-    let d1 = ap (λ v. get_or v 1 0) c.low-first.ensures in
-    let s0 = ap (λ v. get_or v 0 0) c.low-first-2.ensures in
-    let s1 = ap (λ v. get_or v 1 0) c.low-first-2.ensures in
+    let d0 = ap (λ v. get_or v 0 0) c.low_first.ensures in
+    let d1 = ap (λ v. get_or v 1 0) c.low_first.ensures in
+    let s0 = ap (λ v. get_or v 0 0) c.low_first-2.ensures in
+    let s1 = ap (λ v. get_or v 1 0) c.low_first-2.ensures in
     let four = ap (λ v. v ++ c.args.fields.now.payload.now) (all_places 4 c.args.fields.now.four (search rules)) in
     cc

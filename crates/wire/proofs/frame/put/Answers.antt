@@ -8,8 +8,8 @@ returns-in-Some c =
     let l = ap length e in
     record { place = omega arith; front = two_put c.args.out.now _ c.args.at 0x73 c.in-Some.escaped (search rules) e }
 
-pub returns-in-default : goal.returns-in-default
-returns-in-default c =
-    let e = c.in-default.ensures in
+pub returns-in_default : goal.returns-in_default
+returns-in_default c =
+    let e = c.in_default.ensures in
     let l = ap length e in
     record { place = omega arith; front = one_put c.args.out.now _ c.args.at c.args.byte (search rules) e }

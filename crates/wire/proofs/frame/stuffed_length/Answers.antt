@@ -1,4 +1,4 @@
-use Rattle.std.proofs.Common.{◌≡◌, length, ap, arith, rules}
+use Rattle.std.proofs.Common.{length, ap, arith, rules}
 use Rattle.std.proofs.lemmas.List.{length-append}
 use Rattle.wire.proofs.Stuffing.{stuffed_more, stuffed_end}
 use Rattle.wire.proofs.frame.stuffed_length.Goals as goal

@@ -1,4 +1,4 @@
-use Rattle.std.proofs.Common.{◌≡◌, ℕ, ◌+◌, ◌-◌, ◌++◌, length, take, sym, refl, ap, ◌∙◌, arith, rules}
+use Rattle.std.proofs.Common.{ℕ, ◌+◌, ◌-◌, ◌++◌, length, ◌∙◌, arith, rules}
 use borrow.Rule.Slice.PartMut.{post_of}
 use Rattle.std.proofs.lemmas.List.{places}
 use Rattle.wire.specs.Bodies.{body_of}
@@ -9,11 +9,11 @@ use Rattle.wire.proofs.frame.write_body.Goals as goal
 pub returns : goal.returns
 unfolding body_of
 returns c =
-    let h = c.copy-from-slice.new.self in
-    let p = c.copy-from-slice-2.new.self in
+    let h = c.copy_from_slice.new.self in
+    let p = c.copy_from_slice-2.new.self in
     let n : ℕ = 11 + length c.args.fields.now.payload.now in
-    let head = c.copy-from-slice.ensures.after in
-    let tail = c.copy-from-slice-2.ensures.after in
+    let head = c.copy_from_slice.ensures.after in
+    let tail = c.copy_from_slice-2.ensures.after in
     let front = two_parts 11 (n - 11) n h p (post_of 0 11 c.args.body.now) (search rules) (search rules) in
     record {
       length = search rules;

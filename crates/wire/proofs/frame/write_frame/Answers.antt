@@ -1,4 +1,4 @@
-use Rattle.std.proofs.Common.{◌-◌, List, [], ◌∷◌, ◌++◌, length, sym, ap, ◌∙◌, arith, rules}
+use Rattle.std.proofs.Common.{◌-◌, [], ◌∷◌, ◌++◌, length, ap, ◌∙◌, arith, rules}
 use Rattle.wire.specs.Framing.{framed}
 use Rattle.wire.proofs.Writing.{framed_front, framed_rest}
 use Rattle.wire.proofs.frame.write_frame.Goals as goal

@@ -1,4 +1,4 @@
-use Rattle.std.proofs.Common.{◌≡◌, ℕ, ◌+◌, ◌-◌, length, drop, refl, arith}
+use Rattle.std.proofs.Common.{◌≡◌, ◌+◌, ◌-◌, length, drop, refl, arith}
 use Rattle.bearer.proofs.Tapes.{sent_more, whole, room_less}
 use Rattle.bearer.proofs.tape.Tape.write.Goals as goal
 
