@@ -1,5 +1,5 @@
 -- What a body shows, and where its text stands.
-use Rattle.std.proofs.Common.{◌≡◌, ℕ, ◌+◌, ◌-◌, ◌≤◌, List, [], ◌∷◌, ◌++◌, length, take, drop, replicate, Some, None, Option, sym, refl, ap, ◌∙◌, subst, arith}
+use Rattle.std.proofs.Common.{◌≡◌, ℕ, ◌-◌, ◌≤◌, List, ◌∷◌, length, take, drop, replicate, Some, None, Option, sym, refl, ap, ◌∙◌, subst, arith}
 use Rattle.std.specs.Option.{ok_or}
 use Rattle.std.proofs.lemmas.List.{length-take-le, take_rest, drop-take, drop-drop, take_at, take-take}
 use Rattle.std.proofs.lemmas.Bool.Decides.{nat_tests}
@@ -12,7 +12,7 @@ use Rattle.look.specs.declared.Refusal.TheVariants.{Unlawful}
 use Rattle.numbering.specs.declared.command.Command.{Command}
 use Rattle.protocol.specs.Answers.{Means}
 use Rattle.numbering.specs.Exactly.{Exactly}
-use Rattle.look.specs.Looks.{Shows, Seen, Looked, Placed, TextPlaced, refused_as}
+use Rattle.look.specs.Looks.{Shows, Looked, Placed, TextPlaced, refused_as}
 use Rattle.protocol.specs.Text.{padded}
 use Rattle.protocol.proofs.Texting.{length_padded}
 

@@ -2,8 +2,8 @@ use Rattle.std.proofs.Common.{◌≡◌, [], ◌∷◌, length, get_or, sym, ref
 use Rattle.protocol.proofs.Rejoining.{four_places}
 use Rattle.look.proofs.seen.Goals as goal
 
-pub returns-in-ok-answer : goal.returns-in-ok-answer
-returns-in-ok-answer c =
+pub returns-in_ok-answer-in-Answer : goal.returns-in_ok-answer-in-Answer
+returns-in_ok-answer-in-Answer c =
     let four = c.args.fields.four in
     let l : length four ≡ 4 = search rules in
     let z : get_or four 3 0 ≡ 0 = search rules in
@@ -12,7 +12,7 @@ returns-in-ok-answer c =
       destination = refl;
       source = refl;
       status = ap (λ n. get_or four 0 0 ∷ get_or four 1 0 ∷ get_or four 2 0 ∷ n ∷ []) (sym z) ∙ sym (four_places four l);
-      command = c.in-ok-command.command;
-      numbered = c.in-ok-command.ensures;
-      means = c.in-ok-answer.ensures;
+      command = c.in_ok-command-in-Answer.command;
+      numbered = c.in_ok-command-in-Answer.ensures;
+      means = c.in_ok-answer-in-Answer.ensures;
     }
