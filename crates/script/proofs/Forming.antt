@@ -1,5 +1,5 @@
 -- Words that spell a form.
-use Rattle.std.proofs.Common.{◌≡◌, ℕ, ◌-◌, ◌<◌, ◌≤◌, Bool, true, false, cond, ◌&&◌, eqb, ltb, leb, ◌⊎◌, List, [], ◌∷◌, ◌++◌, length, get_or, replicate, Some, None, codes, Option, sym, refl, ap, ◌∙◌, subst, inl, inr, ⊎_elim, arith}
+use Rattle.std.proofs.Common.{◌≡◌, ℕ, ◌-◌, ◌≤◌, Bool, true, false, cond, ◌&&◌, eqb, ltb, leb, List, [], ◌∷◌, ◌++◌, length, get_or, replicate, Some, None, codes, Option, sym, refl, ap, ◌∙◌, subst, inl, inr, ⊎_elim, arith}
 use Rattle.std.specs.Option.{option_map}
 use Rattle.std.specs.List.{AllByRecursion}
 use Rattle.std.specs.Str.{bytes_eq}
@@ -8,7 +8,7 @@ use Rattle.std.proofs.lemmas.Bool.{cases_Bool, and_parts, and_from, eqb-true, eq
 use Rattle.tokens.specs.Numerals.{numeral, up_to}
 use Rattle.tokens.specs.Bytes.{pairs, bytes_of, four_of}
 use Rattle.tokens.specs.Names.{letter, all_letters, name_of}
-use Rattle.script.specs.Grammar.{Kind, Value, Body, Said, Form, Meaning, number, four, name, direction, num, raw, called, request, answer, body, said, silence, unreadable, command, call, value_of, direction_of, led, closing, body_of, said_by, said_by_any, found, commands, calls, addressed, calling, commanded, sentence, meaning_of}
+use Rattle.script.specs.Grammar.{Kind, Value, Body, Said, Form, Meaning, number, four, name, direction, num, raw, called, request, answer, body, said, silence, unreadable, command, call, value_of, direction_of, led, body_of, said_by, said_by_any, found, commands, calls, addressed, commanded, sentence, meaning_of}
 use Rattle.script.specs.Spells.{Writes, Follows, FormsExact, In, Says, Asks, LinesExact, a_number, four_bytes, a_name, a_request, an_answer, no_more, the_bytes, argument, a_command, a_call}
 use Rattle.tokens.specs.Laws.{Parted}
 use Rattle.tokens.specs.Words.{words}

@@ -1,10 +1,10 @@
 -- Lemmas on forms: arguments one by one.
-use Rattle.std.proofs.Common.{◌≡◌, ℕ, zero, suc, ◌+◌, ◌-◌, ◌<◌, ◌≤◌, Bool, true, false, cond, eqb, List, [], ◌∷◌, map, length, get_or, take, drop, Some, None, Option, sym, refl, ap, ◌∙◌, arith, Bor}
+use Rattle.std.proofs.Common.{◌≡◌, ℕ, zero, suc, ◌-◌, ◌<◌, ◌≤◌, Bool, true, false, cond, eqb, List, [], ◌∷◌, map, length, get_or, take, drop, Some, None, Option, refl, ap, ◌∙◌, arith, Bor}
 use Rattle.std.specs.Option.{option_map}
 use Rattle.std.proofs.lemmas.List.{take_rest}
 use Rattle.tokens.specs.Bytes.{bytes_of}
 use Rattle.tokens.specs.Names.{name_of}
-use Rattle.script.specs.Grammar.{Kind, Value, Body, Said, Form, Meaning, body, num, silence, value_of, led, closing, body_of, said_by_any, found, calls, commands, addressed, calling, sentence, meaning_of}
+use Rattle.script.specs.Grammar.{Kind, Value, Body, Said, Form, body, num, silence, value_of, led, closing, body_of, said_by_any, found, calls, commands, addressed, calling, sentence, meaning_of}
 
 -- the words that references hold
 abbrev pub held : List (Bor (List ℕ)) → List (List ℕ)

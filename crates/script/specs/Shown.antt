@@ -1,6 +1,5 @@
 -- What the commands of the program say, in the words of the grammar.
-use Rattle.std.specs.Prelude.{ℕ, List, [], ◌∷◌, Some, None, vec_items, codes, Option}
-use Rattle.tokens.specs.declared.names.Name.{Name}
+use Rattle.std.specs.Prelude.{[], ◌∷◌, Some, None, vec_items, codes, Option}
 use Rattle.script.specs.declared.command.Direction.{Direction}
 use Rattle.script.specs.declared.command.Direction.TheVariants.{Request, Answer}
 use Rattle.script.specs.declared.command.Call.{Call}

@@ -4,7 +4,7 @@ use Rattle.std.specs.Char.{to_ascii_uppercase}
 use Rattle.std.specs.List.{AllByRecursion}
 use Rattle.text.specs.Answers.{solid_pairs}
 use Rattle.tokens.specs.Bytes.{bytes_of}
-use Rattle.script.specs.Grammar.{Kind, Value, Body, Said, Form, Meaning, number, four, name, direction, num, raw, called, request, answer, body, said, silence, unreadable, command, call, body_of, commands, calls, meaning_of}
+use Rattle.script.specs.Grammar.{Kind, Value, Body, Form, Meaning, number, four, name, direction, num, raw, called, request, answer, body, said, silence, unreadable, command, call, body_of, commands, calls, meaning_of}
 use Rattle.tokens.specs.Laws.{Spelt, Parted}
 use Rattle.tokens.specs.Words.{words}
 

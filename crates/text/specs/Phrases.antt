@@ -1,5 +1,5 @@
 -- The words for people of every refusal and outcome.
-use Rattle.std.specs.Prelude.{ℕ, Bool, true, false, cond, not, ◌&&◌, ◌||◌, List, [], ◌∷◌, codes, ◌==◌}
+use Rattle.std.specs.Prelude.{ℕ, Bool, true, cond, not, ◌&&◌, List, [], ◌∷◌, codes, ◌==◌}
 use Rattle.std.specs.Str.{bytes_eq}
 
 -- a number with its words

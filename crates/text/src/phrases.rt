@@ -1,11 +1,11 @@
 //! The words for people of every refusal and outcome.
 
 ghost use Rattle.std.specs.Prelude.{◌≡◌, true};
-ghost use Rattle.text.specs.Phrases.{phrase, entries, apart as All-apart};
+ghost use Rattle.text.specs.Phrases.{phrase, entries, apart as AllApart};
 
 /// Does nothing: its contract is the law that every number of the table has words of its own, and none has empty ones.
 fn words_differ()
-    ensures { All-apart entries ≡ true }
+    ensures { AllApart entries ≡ true }
 {}
 
 /// What a number of a refusal or an outcome says, and nothing of any other number.
@@ -54,7 +54,7 @@ pub(crate) fn words_for(number: u8) -> &'static str
 /// What a number of a refusal or an outcome says, and nothing of any other number; no two say the same.
 pub fn meaning(number: u8) -> &'static str
     ensures words { result.now ≡ phrase number }
-    ensures apart { All-apart entries ≡ true }
+    ensures apart { AllApart entries ≡ true }
 {
     words_differ();
     words_for(number)

@@ -1,6 +1,6 @@
 -- Lemmas on names.
-use Rattle.std.proofs.Common.{◌≡◌, ℕ, zero, suc, ◌+◌, ◌-◌, ◌*◌, ◌<◌, ◌≤◌, Bool, true, false, cond, ◌&&◌, List, [], ◌∷◌, ◌++◌, length, get_or, take, drop, set, replicate, Some, None, Option, sym, refl, ap, ◌∙◌, arith}
-use Rattle.std.proofs.lemmas.List.{append_assoc, append-nil, take_more, take_all, set_at, length-take-le, at_drop_more, at_drop_all}
+use Rattle.std.proofs.Common.{◌≡◌, ℕ, suc, ◌+◌, ◌-◌, ◌<◌, ◌≤◌, true, false, cond, ◌&&◌, List, [], ◌∷◌, ◌++◌, length, get_or, take, drop, set, replicate, Some, None, sym, ap, ◌∙◌, arith}
+use Rattle.std.proofs.lemmas.List.{append_assoc, take_more, take_all, set_at, length-take-le, at_drop_more, at_drop_all}
 use Rattle.tokens.specs.Names.{letter, all_letters}
 
 pub letters_more : (w old : List ℕ) (i : ℕ) → i < length w → length w ≤ 16 → old ≡ take i w ++ replicate (16 - i) 0 → set old i (get_or w i 0) ≡ take (i + 1) w ++ replicate (16 - (i + 1)) 0

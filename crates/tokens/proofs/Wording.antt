@@ -1,9 +1,9 @@
 -- Lemmas on words.
-use Rattle.std.proofs.Common.{◌≡◌, ℕ, zero, suc, ◌+◌, ◌*◌, ◌<◌, ◌≤◌, Bool, true, false, cond, ◌&&◌, List, [], ◌∷◌, ◌++◌, map, length, get_or, drop, sym, refl, ap, ◌∙◌, arith}
+use Rattle.std.proofs.Common.{◌≡◌, ℕ, ◌+◌, ◌<◌, ◌≤◌, true, false, List, [], ◌∷◌, ◌++◌, map, length, get_or, drop, sym, refl, ap, ◌∙◌, arith}
 use Rattle.std.specs.List.{between}
 use Rattle.std.proofs.lemmas.List.{drop_more, drop_all, append-nil, append_assoc, map_push}
 use Rattle.std.proofs.lemmas.List.Edits.{between_more, between_none, length-between}
-use Rattle.tokens.specs.Words.{blank, ended, gathered, words}
+use Rattle.tokens.specs.Words.{blank, ended, gathered}
 
 ended_some : (w : List ℕ) (ws : List (List ℕ)) → 0 < length w → ended w ws ≡ w ∷ ws
 ended_some [] ws h = absurd (omega arith)

@@ -1,4 +1,4 @@
-use Rattle.std.proofs.Common.{◌++◌, string_bytes, codes, ap, ◌∙◌, rules}
+use Rattle.std.proofs.Common.{◌++◌, string_bytes, codes, ◌∙◌, rules}
 use Rattle.text.proofs.Printing.{then_more}
 use Rattle.wire.proofs.Writing.{all_places}
 use Rattle.answers.specs.Spoken.{counted}
@@ -9,4 +9,4 @@ returns c =
     let old = string_bytes c.args.out.now in
     let ends = all_places 2 c.args.ends (search rules) in
     let status = all_places 3 c.args.status (search rules) in
-    then_more old _ _ _ _ (c.in-ok-write-counted.ensures ∙ (λ i. old ++ counted (codes "answer") (ends i ++ status i))) c.in-ok-write-answer.ensures
+    then_more old _ _ _ _ (c.in_ok-write_counted.ensures ∙ (λ i. old ++ counted (codes "answer") (ends i ++ status i))) c.in_ok-write_answer.ensures

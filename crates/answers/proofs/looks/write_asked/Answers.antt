@@ -8,6 +8,6 @@ pub returns : goal.returns
 returns c =
     let old = string_bytes c.args.out.now in
     let ends = ap (λ ns. old ++ counted (codes "question") ns) (all_places 2 c.args.ends (search rules)) in
-    then_more old _ _ _ _ (c.in-ok-write-counted.ensures ∙ ends)
-    (after_one (string_bytes c.write-counted.new.out) _ _ 32 _ c.in-ok-push-str.ensures.bytes
-    (then_more (string_bytes c.push-str.new.self) _ _ _ _ c.in-ok-write-password.ensures c.in-ok-write-question.ensures))
+    then_more old _ _ _ _ (c.in_ok-write_counted.ensures ∙ ends)
+    (after_one (string_bytes c.write_counted.new.out) _ _ 32 _ c.in_ok-push_str.ensures.bytes
+    (then_more (string_bytes c.push_str.new.self) _ _ _ _ c.in_ok-write_password.ensures c.in_ok-write_question.ensures))

@@ -6,6 +6,6 @@ use Rattle.answers.proofs.looks.write_complaint.Goals as goal
 
 pub returns : goal.returns
 returns c =
-    retold c.write-counted.result (string_bytes c.args.out.now) _ _ _
+    retold c.write_counted.result (string_bytes c.args.out.now) _ _ _
     (λ i. counted (codes "complaint") (all_places 2 c.args.ends (search rules) i ++ (c.args.command ∷ all_places 4 c.args.status (search rules) i)))
-    c.write-counted.ensures
+    c.write_counted.ensures

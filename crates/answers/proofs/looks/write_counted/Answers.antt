@@ -5,4 +5,4 @@ use Rattle.answers.proofs.looks.write_counted.Goals as goal
 
 pub returns : goal.returns
 unfolding counted
-returns c = then_more (string_bytes c.args.out.now) _ _ _ _ c.in-ok-push-str.ensures.bytes c.in-ok-write-numbers.ensures
+returns c = then_more (string_bytes c.args.out.now) _ _ _ _ c.in_ok-push_str.ensures.bytes c.in_ok-write_numbers.ensures

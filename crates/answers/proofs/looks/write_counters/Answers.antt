@@ -7,6 +7,6 @@ use Rattle.answers.proofs.looks.write_counters.Goals as goal
 pub returns : goal.returns
 returns c =
     let k = c.args.counters.now in
-    retold c.write-counted.result (string_bytes c.args.out.now) _ _ _
+    retold c.write_counted.result (string_bytes c.args.out.now) _ _ _
     (ap (λ ts. counted (codes " counter") (c.args.energy ∷ k.config ∷ k.voltage_ratio ∷ k.current_ratio ∷ k.full ∷ k.in_use ∷ ts)) (all_places 4 k.tariffs (search rules)))
-    c.write-counted.ensures
+    c.write_counted.ensures

@@ -5,6 +5,6 @@ use Rattle.answers.proofs.looks.write_selector.Goals as goal
 
 pub returns-in-Parameter : goal.returns-in-Parameter
 returns-in-Parameter c =
-    retold c.write-counted-in-Parameter.result (string_bytes c.args.out.now) _ _ _
+    retold c.write_counted-in-Parameter.result (string_bytes c.args.out.now) _ _ _
     (ap (λ n. counted (codes " parameter") (n ∷ [])) c.number-in-Parameter.ensures ∙ sym (ap selector_text c.in-Parameter.is))
-    c.write-counted-in-Parameter.ensures
+    c.write_counted-in-Parameter.ensures

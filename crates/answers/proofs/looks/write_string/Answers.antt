@@ -4,5 +4,5 @@ use Rattle.answers.proofs.looks.write_string.Goals as goal
 
 pub returns : goal.returns
 returns c =
-    then_more (string_bytes c.args.out.now) _ _ _ _ c.in-ok-write-counted.ensures
-    (after_one _ _ _ 32 _ c.in-ok-push-str.ensures.bytes c.in-ok-write-text.ensures)
+    then_more (string_bytes c.args.out.now) _ _ _ _ c.in_ok-write_counted.ensures
+    (after_one _ _ _ 32 _ c.in_ok-push_str.ensures.bytes c.in_ok-write_text.ensures)

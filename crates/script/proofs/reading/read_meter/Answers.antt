@@ -1,16 +1,15 @@
-use Rattle.std.proofs.Common.{◌≡◌, ℕ, [], ◌∷◌, Some, None, codes, refl, ap, ◌∙◌, arith}
+use Rattle.std.proofs.Common.{[], ◌∷◌, ap, ◌∙◌, arith}
 use Rattle.std.specs.Option.{option_map}
 use Rattle.std.proofs.lemmas.Bool.{ltb-true, ltb-false}
-use Rattle.script.specs.Grammar.{Kind, Body, number, four, name, direction, num, raw, called, body, said, enrol}
-use Rattle.script.specs.Shown.{call_shown}
+use Rattle.script.specs.Grammar.{num, enrol}
 use Rattle.script.proofs.Parsing.{wrong_count, by_all, one_number}
 use Rattle.script.proofs.reading.read_meter.Goals as goal
 
-pub returns-in-default : goal.returns-in-default
-returns-in-default c = wrong_count enrol.arguments c.args.args.now (λ e. omega (arith, ltb-true, ltb-false))
+pub returns-in_default : goal.returns-in_default
+returns-in_default c = wrong_count enrol.arguments c.args.args.now (λ e. omega (arith, ltb-true, ltb-false))
 
-pub returns-in-default·2 : goal.returns-in-default·2
-returns-in-default·2 c = wrong_count enrol.arguments c.args.args.now (λ e. omega (arith, ltb-true, ltb-false))
+pub returns-in_default-2 : goal.returns-in_default-2
+returns-in_default-2 c = wrong_count enrol.arguments c.args.args.now (λ e. omega (arith, ltb-true, ltb-false))
 
 pub returns : goal.returns
-returns c = one_number c.read-short.result ∙ by_all enrol.arguments c.args.args.now (option_map num c.read-short.result ∷ []) (omega (arith, ltb-true, ltb-false)) (ap (option_map num) c.read-short.ensures, tt)
+returns c = one_number c.read_short.result ∙ by_all enrol.arguments c.args.args.now (option_map num c.read_short.result ∷ []) (omega (arith, ltb-true, ltb-false)) (ap (option_map num) c.read_short.ensures, tt)

@@ -1,4 +1,4 @@
-use Rattle.std.proofs.Common.{◌≡◌, ◌-◌, ◌++◌, length, take, drop, replicate}
+use Rattle.std.proofs.Common.{◌≡◌, ◌-◌, ◌++◌, take, drop, replicate}
 use Rattle.tokens.specs.Names.{all_letters}
 use Rattle.tokens.proofs.names.padded.Given as goal
 
