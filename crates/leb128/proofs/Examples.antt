@@ -1,5 +1,5 @@
 -- The rules on a few spellings, computed.
-use Rattle.std.proofs.Common.{◌≡◌, List, [], ◌∷◌, refl}
+use Rattle.std.proofs.Common.{◌≡◌, [], ◌∷◌, refl}
 use Rattle.leb128.specs.declared.cause.Cause.TheVariants.{Ended, LongSpelling, TooLarge}
 use Rattle.leb128.specs.Numbers.{number_form, number_read}
 use Rattle.leb128.specs.Reads.{got, bad}

@@ -1,11 +1,9 @@
 -- Records in order: look-ups, a record put, records removed.
-use Rattle.std.proofs.Common.{◌≡◌, ℕ, zero, suc, ◌+◌, ◌-◌, ◌<◌, ◌≤◌, min, Bool, true, false, cond, ◌&&◌, ◌||◌, eqb, ltb, leb, ◌⊎◌, List, [], ◌∷◌, ◌++◌, length, get_or, take, drop, set, is_some, Some, None, Ok, Err, Option, Result, sym, refl, ap, ◌∙◌, subst, inl, inr, ⊎_elim, arith}
+use Rattle.std.proofs.Common.{◌≡◌, ℕ, zero, suc, ◌+◌, ◌<◌, ◌≤◌, true, false, cond, eqb, ltb, leb, List, [], ◌∷◌, ◌++◌, length, get_or, set, is_some, Some, None, Ok, Err, refl, ap, ◌∙◌, ⊎_elim, arith}
 use Rattle.std.proofs.lemmas.Bool.Decides.{nat_tests}
-use Rattle.std.proofs.lemmas.Bool.{lt-ltb, le-ltb, eq-eqb, ne_eqb, cases_order, cases_eq, cases_lt, cases_Bool, leb-true, le-leb, and_parts, and_from, or_left, or_right, or_from}
-use Rattle.std.specs.List.{insert, AllByRecursion as All}
-use Rattle.std.proofs.lemmas.List.{append_assoc, length-append, length-take-le, length-set, get_or-take, same_lists, take-append-drop, set-append_left, take_at, take_more, drop_more, get_or_append_left, get_or-append_right, get_or-drop, length-drop, set-append_right, drop-set, drop-drop, get_or_default}
-use Rattle.std.proofs.lemmas.List.Edits.{length-insert, get_or-insert_below, get_or-insert_at, get_or-insert_above}
-use Rattle.ordered.specs.Ranks.{rises, Rises, nth, found, placed, within, without, Located}
+use Rattle.std.proofs.lemmas.Bool.{lt-ltb, le-ltb, eq-eqb, ne_eqb, cases_order, cases_eq, cases_Bool, leb-true, le-leb, and_parts, and_from}
+use Rattle.std.specs.List.{insert, AllByRecursion}
+use Rattle.ordered.specs.Ranks.{rises, Rises, found, placed, within, without, Located}
 
 module _ {X : Type 0} (place : X → ℕ) where
   -- a list in order is its first record and the others
@@ -116,7 +114,7 @@ module _ {X : Type 0} (place : X → ℕ) where
       let t : ltb (place x) (place r) ≡ true = lt-ltb (place x) (place r) (l.1 0 x (omega arith)) in
       rw t (ap (λ ys. x ∷ ys) (placed_between r at xs (omega (arith, l.0), (λ i y g. l.1 (suc i) y (omega arith)), (λ y g. l.2 y (omega arith)))))
 
-  pub placed_last : (r : X) (xs : List X) → All (λ x. place x < place r) xs → placed place r xs ≡ xs ++ r ∷ []
+  pub placed_last : (r : X) (xs : List X) → AllByRecursion (λ x. place x < place r) xs → placed place r xs ≡ xs ++ r ∷ []
   placed_last r [] h = refl
   placed_last r (x ∷ xs) h = rw (lt-ltb (place x) (place r) h.0) (ap (λ ys. x ∷ ys) (placed_last r xs h.1))
 

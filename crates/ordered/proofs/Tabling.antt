@@ -1,14 +1,13 @@
 -- Records at the front of places.
-use Rattle.std.proofs.Common.{◌≡◌, ℕ, zero, suc, ◌+◌, ◌-◌, ◌<◌, ◌≤◌, min, Bool, true, false, cond, ◌||◌, eqb, ltb, leb, ◌⊎◌, List, [], ◌∷◌, ◌++◌, length, get_or, take, drop, set, is_some, Some, None, Ok, Err, Option, Result, sym, refl, ap, ◌∙◌, subst, ⊎_elim, arith}
-use Rattle.std.proofs.lemmas.Bool.Decides.{nat_tests}
+use Rattle.std.proofs.Common.{◌≡◌, ℕ, zero, suc, ◌+◌, ◌-◌, ◌<◌, ◌≤◌, min, true, false, cond, eqb, ltb, List, [], ◌∷◌, ◌++◌, length, get_or, take, drop, set, is_some, Some, None, Ok, Err, sym, refl, ap, ◌∙◌, subst, ⊎_elim, arith}
 use Rattle.std.proofs.lemmas.Bool.{lt-ltb, le-ltb, cases_order, cases_lt, or_left, or_right, or_from}
 use Rattle.std.specs.List.{insert}
-use Rattle.std.proofs.lemmas.List.{append-nil, append_assoc, length-append, length-take, length-take-le, length-set, length-drop, get_or-take, get_or-drop, get_or_read, get_or_append_left, get_or-append_right, same_lists, drop_at, drop-drop, take-append-drop, take_all, take_at, take_more, drop_more, set-append_left, set-append_right}
+use Rattle.std.proofs.lemmas.List.{append-nil, append_assoc, length-append, length-take, length-take-le, length-set, length-drop, get_or-take, get_or-drop, get_or_append_left, get_or-append_right, same_lists, drop_at, drop-drop, take-append-drop, take_all, take_at, take_more, drop_more, set-append_left, set-append_right}
 use Rattle.std.proofs.lemmas.List.Edits.{length-insert, get_or-insert_below, get_or-insert_at, get_or-insert_above}
 use Rattle.ordered.specs.Ranks.{Rises, nth, found, placed, within, without, Located}
 use Rattle.ordered.specs.Tables.{State, records, room, Sound, holding, finds_place}
 use Rattle.ordered.specs.Filing.{lent, Kept}
-use Rattle.ordered.proofs.Ordering.{found_placed, found_without, placed_rises, without_rises, found_here, found_nowhere, placed_over, placed_between, without_more, without_few, without_fewer}
+use Rattle.ordered.proofs.Ordering.{found_placed, found_without, placed_rises, without_rises, found_here, found_nowhere, placed_over, placed_between, without_more, without_fewer}
 
 pub nth_at : {X : Type 0} (xs : List X) (i : ℕ) (d : X) → i < length xs → nth xs i ≡ Some (get_or xs i d)
 nth_at [] i d h = absurd (omega arith)

@@ -1,5 +1,5 @@
 -- What a table holds, and what its calls make of it.
-use Rattle.std.specs.Prelude.{◌≡◌, ℕ, ◌-◌, ◌≤◌, min, Bool, true, false, cond, ◌||◌, List, ◌++◌, length, take, drop, is_some, Some, None, Ok, Err, Option, Result, ◌==◌, nat_lt}
+use Rattle.std.specs.Prelude.{◌≡◌, ℕ, ◌≤◌, min, Bool, true, false, cond, ◌||◌, List, ◌++◌, length, take, drop, is_some, Some, None, Ok, Err, Result, ◌==◌, nat_lt}
 use Rattle.ordered.specs.Ranks.{Rises, found, placed, within}
 use Rattle.ordered.specs.declared.table.Table.{Table}
 

@@ -14,5 +14,5 @@ returns-in-3 c = let n = c.args.n in record { more = rw c.in-3.is (number_over 2
 pub returns-in-4 : goal.returns-in-4
 returns-in-4 c = let n = c.args.n in record { more = rw c.in-4.is (number_over 3 n (omega arith)); some = number_some n; few = number_few n }
 
-pub returns-in-default : goal.returns-in-default
-returns-in-default c = let n = c.args.n in record { more = number_within c.args.size n (omega arith); some = number_some n; few = number_few n }
+pub returns-in_default : goal.returns-in_default
+returns-in_default c = let n = c.args.n in record { more = number_within c.args.size n (omega arith); some = number_some n; few = number_few n }

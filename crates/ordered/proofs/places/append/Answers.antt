@@ -1,4 +1,4 @@
-use Rattle.std.proofs.Common.{◌≡◌, ℕ, ◌+◌, ◌-◌, min, length, get_or, take, set, Err, sym, refl, ap, ◌∙◌, subst, arith, length-set, length-take}
+use Rattle.std.proofs.Common.{◌≡◌, ℕ, ◌+◌, ◌-◌, length, get_or, take, set, Err, sym, refl, ap, ◌∙◌, subst, arith, length-set, length-take}
 use Rattle.std.proofs.lemmas.List.{get_or-set_same, get_or-set_other}
 use Rattle.ordered.specs.Ranks.{Located}
 use Rattle.ordered.proofs.Tabling.{front, PutIn, put_between}
@@ -15,7 +15,7 @@ returns g c =
     let e : take (end - 0) ps ≡ take held ps = front (end - 0) held ps (omega (arith, c.min-end.ensures)) in
     λ s.
     let q : held ≡ end = omega (arith, s.fits, c.min-end.ensures) in
-    let l = rw (c.key.ensures, e) at c.if-not-is-above.ensures in
+    let l = rw (c.key.ensures, e) at c.if-not-is_above.ensures in
     let n : length (take held ps) ≡ held = omega (arith, s.fits, length-take held ps) in
     let at : Located p (p r) (take held ps) (Err held) = subst (λ (m : ℕ). Located p (p r) (take held ps) (Err m)) n (l s.rising refl) in
     let same : after ≡ set ps held r = c.replace.ensures ∙ ap (λ i. set ps i r) (sym q) in

@@ -1,4 +1,4 @@
-use Rattle.std.proofs.Common.{◌≡◌, ℕ, ◌+◌, ◌-◌, min, length, take, sym, refl, subst, arith}
+use Rattle.std.proofs.Common.{◌≡◌, ℕ, ◌+◌, ◌-◌, take, refl, subst, arith}
 use Rattle.ordered.proofs.Tabling.{front, PutIn, put_full, put_over, put_between}
 use Rattle.ordered.proofs.places.put.Goals as goal
 

@@ -1,8 +1,8 @@
-use Rattle.std.proofs.Common.{◌≡◌, ◌+◌, ◌<◌, true, false, length, sym, ap, ◌∙◌, arith}
+use Rattle.std.proofs.Common.{◌≡◌, ◌<◌, length, sym, ap, ◌∙◌, arith}
 use Rattle.ordered.specs.Ranks.{within}
-use Rattle.ordered.proofs.Tabling.{Turn, passed, moved, kept}
+use Rattle.ordered.proofs.Tabling.{passed, moved, kept}
 use Rattle.ordered.proofs.places.remove.Goals as goal
-use Rattle.ordered.proofs.places.remove.Goals.{then-not-is-within, else-not-is-within}
+use Rattle.ordered.proofs.places.remove.Goals.{then-not-is_within, else-not-is_within}
 
 pub loop-i-preserved : goal.loop-i-preserved
 loop-i-preserved g c =
@@ -12,11 +12,11 @@ loop-i-preserved g c =
     let p = g.R.Keyed.place in
     let f = g.R.Id.Key.rank c.args.first.now in
     let t = g.R.Id.Key.rank c.args.last.now in
-    let w : c.is-within.result ≡ within f t (p x) = c.is-within.ensures ∙ ap (within f t) c.key.ensures in
+    let w : c.is_within.result ≡ within f t (p x) = c.is_within.ensures ∙ ap (within f t) c.key.ensures in
     let h : l.i < length ps = omega (arith, c.min-i-end.ensures) in
-    elim c.if-not-is-within.branch [
-      | then-not-is-within v ↦ rw (v.left-is, v.places-is) (moved p f t ps l.i l.left l.places x l.invariant h c.index-places-i.is (sym w ∙ v.if-not-is-within.true))
-      | else-not-is-within v ↦ rw (v.left-is, v.places-is) (passed p f t ps l.i l.left l.places x l.invariant h c.index-places-i.is (sym w ∙ v.if-not-is-within.false))
+    elim c.if-not-is_within.branch [
+      | then-not-is_within v ↦ rw (v.left-is, v.places-is) (moved p f t ps l.i l.left l.places x l.invariant h c.index-places-i.is (sym w ∙ v.if-not-is_within.true))
+      | else-not-is_within v ↦ rw (v.left-is, v.places-is) (passed p f t ps l.i l.left l.places x l.invariant h c.index-places-i.is (sym w ∙ v.if-not-is_within.false))
     ]
 
 pub returns : goal.returns
