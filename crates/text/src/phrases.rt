@@ -1,11 +1,11 @@
 //! The words for people of every refusal and outcome.
 
 ghost use Rattle.std.specs.Prelude.{◌≡◌, true};
-ghost use Rattle.text.specs.Phrases.{phrase, entries, apart as AllApart};
+ghost use Rattle.text.specs.Phrases.{phrase, entries, apart as all_apart};
 
 /// Does nothing: its contract is the law that every number of the table has words of its own, and none has empty ones.
 fn words_differ()
-    ensures { AllApart entries ≡ true }
+    ensures { all_apart entries ≡ true }
 {}
 
 /// What a number of a refusal or an outcome says, and nothing of any other number.
@@ -54,7 +54,7 @@ pub(crate) fn words_for(number: u8) -> &'static str
 /// What a number of a refusal or an outcome says, and nothing of any other number; no two say the same.
 pub fn meaning(number: u8) -> &'static str
     ensures words { result.now ≡ phrase number }
-    ensures apart { AllApart entries ≡ true }
+    ensures apart { all_apart entries ≡ true }
 {
     words_differ();
     words_for(number)
