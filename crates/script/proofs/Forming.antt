@@ -18,7 +18,7 @@ use Rattle.tokens.proofs.Lawful.{spelt_numeral, numeral_spelt, pairs_upper, uppe
 never : {X Y : Type 0} {x : X} → None ≡ Some x → Y
 never e = let z : ◌≡◌ {A = ℕ} 0 1 = cc in absurd (omega arith)
 
--- what a `mapped` and a `cond` come from
+-- what an `option_map` and a `cond` come from
 mapped_inside : {X Y : Type 0} (f : X → Y) (o : Option X) (y : Y) → option_map f o ≡ Some y → (x : X) × (o ≡ Some x) × (f x ≡ y)
 mapped_inside f None y e = never e
 mapped_inside f (Some x) y e = (x, refl, cc)
@@ -27,9 +27,9 @@ cond_inside : {X : Type 0} (b : Bool) (o : Option X) (x : X) → cond b o None �
 cond_inside true o x e = (refl, e)
 cond_inside false o x e = never e
 
-upTo_inside : (most n : ℕ) (o : Option ℕ) → up_to most o ≡ Some n → (o ≡ Some n) × (n ≤ most)
-upTo_inside most n None e = never e
-upTo_inside most n (Some m) e =
+up_to_inside : (most n : ℕ) (o : Option ℕ) → up_to most o ≡ Some n → (o ≡ Some n) × (n ≤ most)
+up_to_inside most n None e = never e
+up_to_inside most n (Some m) e =
     let h = cond_inside (leb m most) (Some m) n e in
     (h.1, let q : m ≡ n = let k = h.1 in cc in subst (λ x. x ≤ most) q (leb-true m most h.0))
 
@@ -47,7 +47,7 @@ every_letters (b ∷ w) u = and_from (letter b) (all_letters w) (and_from (leb 9
 value_writes : (k : Kind) (w : List ℕ) (v : Value) → value_of k w ≡ Some v → Writes k w v
 value_writes (number most) w v e =
     let h = mapped_inside num (up_to most (numeral w)) v e in
-    let g = upTo_inside most h.0 (numeral w) h.1 in
+    let g = up_to_inside most h.0 (numeral w) h.1 in
     subst (Writes (number most) w) h.2 (a_number most h.0 w (numeral_spelt w h.0 g.0) g.1)
 value_writes four w v e =
     let h = mapped_inside raw (four_of w) v e in
