@@ -10,6 +10,7 @@ use protocol::record::Record;
 use std::alloc::{AllocError, Global};
 use std::io;
 use text::{write_bytes, write_refusal};
+use worked::saved_examples;
 
 /// The most meters of a book.
 const METERS: usize = 128;
@@ -42,6 +43,8 @@ const TWO: [u8; 8] = [0x02, 0x05, 0x00, 0x00, 0xA7, 0x02, 0x00, 0x00];
 const ONE: [u8; 9] = [0x01, 0x05, 0x01, 0x60, 0x00, 0x00, 0x01, 0x1B, 0x15];
 
 fn main(rt: HostRuntime) -> io::Result<()> {
+    let count = saved_examples();
+    println!(rt; "{count} worked examples of numbers and books hold")?;
     write_worked(&rt)?;
     let book = full_book(&rt)?;
     read_cut(&rt, &book)?;
