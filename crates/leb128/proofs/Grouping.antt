@@ -1,6 +1,6 @@
 -- Numbers as their groups, read and written: the two laws.
-use Rattle.std.proofs.Common.{◌≡◌, ℕ, zero, suc, ◌+◌, ◌-◌, ◌*◌, ◌/◌, ◌%◌, ◌^◌, ◌<◌, ◌≤◌, true, false, ltb, List, [], ◌∷◌, ◌++◌, length, drop, Ok, Err, sym, refl, ap, ◌∙◌, ⊎_elim, arith}
-use Rattle.std.proofs.lemmas.List.{length-append, length-drop}
+use Rattle.std.proofs.Common.{◌≡◌, ℕ, zero, suc, ◌+◌, ◌-◌, ◌*◌, ◌/◌, ◌%◌, ◌^◌, ◌<◌, ◌≤◌, true, false, ltb, List, [], ◌∷◌, ◌++◌, length, Ok, Err, sym, refl, ap, ◌∙◌, ⊎_elim, arith}
+use Rattle.std.proofs.lemmas.List.{length-append}
 use Rattle.std.proofs.lemmas.Bool.{cases_lt}
 use Rattle.std.proofs.lemmas.Bool.Decides.{nat_tests}
 use Rattle.leb128.specs.declared.cause.Cause.TheVariants.{TooLarge}
@@ -54,7 +54,7 @@ ways i b n bs rest e =
 before_fifth : (i b : ℕ) → b ≤ most i → 128 ≤ b → i < 4
 before_fifth i b m l = grind (arith, nat_tests)
 
-byte_most : (i b : ℕ) → b ≤ most i → b ≤ 255
+pub byte_most : (i b : ℕ) → b ≤ most i → b ≤ 255
 byte_most i b m = grind (arith, nat_tests)
 
 fifth_most : (i b : ℕ) → i ≡ 4 → b ≤ most i → b ≤ 15
@@ -177,14 +177,10 @@ number_only n bs rest e =
     (groups_only 0 4 n bs rest refl r.0 r.1, reads_below 0 4 n bs rest refl r.0)
 
 -- what is left to judge once a number is read in some spelling
-pub spelled : (bytes : List ℕ) (at : ℕ) (r : Answer ℕ) → Took bytes (groups_read 0 (drop at bytes)) r → Spelled bytes at r
+pub spelled : (bytes : List ℕ) (r : Answer ℕ) → Took (groups_read 0 bytes) r → Spelled bytes r
 unfolding number_read
-spelled bytes at (Ok p) t =
-    let fewer : length (drop p.1 bytes) < length (drop at bytes) = reads_some 0 p.0 (drop at bytes) (drop p.1 bytes) t.1 in
-    let size : length (drop at bytes) - length (drop p.1 bytes) ≡ p.1 - at = omega (arith, length-drop at bytes, length-drop p.1 bytes, t.0) in (
-      omega (arith, length-drop at bytes, length-drop p.1 bytes, t.0),
-      t.0,
-      ap (λ d. next d (λ m tail. shortest (length (drop at bytes) - length tail) m tail)) t.1
-          ∙ ap (λ k. shortest k p.0 (drop p.1 bytes)) size,
-    )
-spelled bytes at (Err cause) t = ap (λ d. next d (λ m tail. shortest (length (drop at bytes) - length tail) m tail)) t
+spelled bytes (Ok p) t = (
+  omega (arith, reads_some 0 p.0 bytes p.1.now t),
+  ap (λ d. next d (λ m tail. shortest (length bytes - length tail) m tail)) t,
+)
+spelled bytes (Err cause) t = ap (λ d. next d (λ m tail. shortest (length bytes - length tail) m tail)) t

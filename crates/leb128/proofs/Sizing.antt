@@ -40,10 +40,13 @@ pub number_few : (n : ℕ) → length (number_form n) ≤ 5
 unfolding number_form
 number_few n = groups_few 4 n
 
-pub number_over : (j n : ℕ) → j < 4 → leb (limit j) n ≡ ltb (suc j) (length (number_form n))
+number_over : (j n : ℕ) → j < 4 → leb (limit j) n ≡ ltb (suc j) (length (number_form n))
 unfolding number_form
 number_over j n h = groups_over j 4 n h
 
--- no number has more than five groups
-pub number_within : (size n : ℕ) → 5 ≤ size → false ≡ ltb size (length (number_form n))
-number_within size n h = let f = number_few n in grind (arith, nat_tests)
+-- a number below a limit, and one from it on
+pub number_up_to : (j n : ℕ) → j < 4 → n < limit j → length (number_form n) ≤ suc j
+number_up_to j n h l = let o = number_over j n h in grind (arith, nat_tests)
+
+pub number_above : (j n : ℕ) → j < 4 → limit j ≤ n → suc j < length (number_form n)
+number_above j n h l = let o = number_over j n h in grind (arith, nat_tests)

@@ -4,7 +4,7 @@ ghost use Rattle.std.specs.Prelude.{◌≡◌};
 ghost use Rattle.leb128.specs.Causes.{cause_number};
 
 /// The rule that bytes break: the one fault type of every reader of a book.
-#[derive(Clone, Copy)]
+#[derive(Clone, Copy, Debug, PartialEq, Eq)]
 pub enum Cause {
     /// The bytes end too early.
     Ended,
@@ -26,8 +26,8 @@ pub enum Cause {
     NoStanding,
 }
 
-/// What a reader answers: the value and the place behind it, or the cause of the refusal.
-pub type Parsed<T> = Result<(T, usize), Cause>;
+/// What a reader answers: the value and the bytes behind it, or the cause of the refusal.
+pub type Parsed<'a, T> = Result<(T, &'a [u8]), Cause>;
 
 impl Cause {
     /// The refusal's number; all rules on values share one.

@@ -1,6 +1,6 @@
 //! Numbers read from bytes and written to them.
 
-ghost use Rattle.std.specs.Prelude.{◌≡◌, ◌+◌, ◌<◌, ◌≤◌, [], ◌∷◌, ◌++◌, length, take, drop, MatchOption, nat_lt};
+ghost use Rattle.std.specs.Prelude.{◌≡◌, ◌+◌, ◌<◌, ◌≤◌, [], ◌++◌, length, take, drop, };
 ghost use Rattle.leb128.specs.Laws.{Back, Only};
 ghost use Rattle.leb128.specs.Numbers.{number_form, number_read, groups_read};
 ghost use Rattle.leb128.specs.Reads.{Took};
@@ -19,80 +19,53 @@ const LAST_PLACE: u8 = 4;
 /// The largest fifth byte: four of the 32 bits are left for it.
 const LAST_MOST: u8 = 0x0F;
 
-/// The byte at a place, if there is one.
-fn byte_at(bytes: &[u8], at: usize) -> Option<u8>
-    ensures { MatchOption result (drop at bytes.now ≡ []) (λ b. (at < length bytes.now) × (drop at bytes.now ≡ b ∷ drop (at + 1) bytes.now)) }
-{
-    if at < bytes.len() {
-        Some(bytes[at])
-    } else {
-        None
-    }
-}
-
-/// The byte at `at`, if it may stand at this place of a number, counted from 0.
-fn group_at(bytes: &[u8], at: usize, place: u8) -> Result<u8, Cause>
+/// The first byte, if it may stand at this place of a number, counted from 0.
+fn read_group(bytes: &[u8], place: u8) -> Parsed<'_, u8>
     requires { place ≤ 4 }
-    ensures { Group bytes.now at place result }
+    ensures { Group bytes.now place result }
 {
-    let Some(byte) = byte_at(bytes, at) else {
+    let [byte, rest @ ..] = bytes else {
         return Err(Cause::Ended);
     };
-    if place == LAST_PLACE && byte > LAST_MOST {
+    if place == LAST_PLACE && *byte > LAST_MOST {
         return Err(Cause::TooLarge);
     }
-    Ok(byte)
+    Ok((*byte, rest))
 }
 
 /// Reads a number's groups from this place on, in any spelling.
-fn read_groups(bytes: &[u8], at: usize, place: u8) -> Parsed<u32>
+fn read_groups(bytes: &[u8], place: u8) -> Parsed<'_, u32>
     requires { place ≤ 4 }
-    ensures { Took bytes.now (groups_read place (drop at bytes.now)) result }
+    ensures { Took (groups_read place bytes.now) result }
 {
-    let byte = group_at(bytes, at, place)?;
+    let (byte, rest) = read_group(bytes, place)?;
     if byte < MORE {
-        return Ok((byte as u32, at + 1));
+        return Ok((u32::from(byte), rest));
     }
-    let (high, end) = read_groups(bytes, at + 1, place + 1)?;
-    Ok(((byte - MORE) as u32 + BASE * high, end))
+    let (high, rest) = read_groups(rest, place + 1)?;
+    Ok((u32::from(byte - MORE) + BASE * high, rest))
 }
 
-/// Reads the number that stands at `at`, in any spelling.
-fn read_spelling(bytes: &[u8], at: usize) -> Parsed<u32>
-    ensures spelled { Spelled bytes.now at result }
+/// Reads the number at the front, in any spelling.
+fn read_spelling(bytes: &[u8]) -> Parsed<'_, u32>
+    ensures spelled { Spelled bytes.now result }
     ensures back { Back }
     ensures only { Only }
 {
-    read_groups(bytes, at, 0)
+    read_groups(bytes, 0)
 }
 
-/// Reads the number that stands at `at`: its value and the place behind it.
-pub fn read_number(bytes: &[u8], at: usize) -> Parsed<u32>
-    ensures read { Took bytes.now (number_read (drop at bytes.now)) result }
+/// Reads the number at the front: its value and the bytes behind it.
+pub fn read_number(bytes: &[u8]) -> Parsed<'_, u32>
+    ensures read { Took (number_read bytes.now) result }
     ensures back { Back }
     ensures only { Only }
 {
-    let (number, end) = read_spelling(bytes, at)?;
-    if end - at > number_size(number) {
+    let (number, rest) = read_spelling(bytes)?;
+    if bytes.len() - rest.len() > number_size(number) {
         return Err(Cause::LongSpelling);
     }
-    Ok((number, end))
-}
-
-/// Whether a number takes more than `size` bytes.
-fn exceeds(n: u32, size: usize) -> bool
-    requires { 0 < size }
-    ensures more { result ≡ nat_lt size (length (number_form n)) }
-    ensures some { 0 < length (number_form n) }
-    ensures few { length (number_form n) ≤ 5 }
-{
-    match size {
-        1 => n >= 1 << 7,
-        2 => n >= 1 << 14,
-        3 => n >= 1 << 21,
-        4 => n >= 1 << 28,
-        _ => false,
-    }
+    Ok((number, rest))
 }
 
 /// How many bytes a number takes.
@@ -100,11 +73,13 @@ pub fn number_size(n: u32) -> usize
     ensures whole { result ≡ length (number_form n) }
     ensures small { result ≤ 5 }
 {
-    let mut size = 1;
-    while exceeds(n, size) {
-        size += 1;
+    match n {
+        0..0x80 => 1,
+        ..0x4000 => 2,
+        ..0x20_0000 => 3,
+        ..0x1000_0000 => 4,
+        _ => 5,
     }
-    size
 }
 
 /// Writes a number at `at`, where it fits.

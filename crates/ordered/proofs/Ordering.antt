@@ -1,8 +1,9 @@
 -- Records in order: look-ups, a record put, records removed.
-use Rattle.std.proofs.Common.{◌≡◌, ℕ, zero, suc, ◌+◌, ◌<◌, ◌≤◌, true, false, cond, eqb, ltb, leb, List, [], ◌∷◌, ◌++◌, length, get_or, set, is_some, Some, None, Ok, Err, refl, ap, ◌∙◌, ⊎_elim, arith}
+use Rattle.std.proofs.Common.{◌≡◌, ℕ, zero, suc, ◌+◌, ◌<◌, ◌≤◌, true, false, cond, eqb, ltb, leb, List, [], ◌∷◌, ◌++◌, length, get_or, set, is_some, Some, None, Ok, Err, refl, sym, ap, ◌∙◌, ⊎_elim, Ordering, Less, Equal, Greater, is_lt, true≢false, arith}
 use Rattle.std.proofs.lemmas.Bool.Decides.{nat_tests}
 use Rattle.std.proofs.lemmas.Bool.{lt-ltb, le-ltb, eq-eqb, ne_eqb, cases_order, cases_eq, cases_Bool, leb-true, le-leb, and_parts, and_from}
 use Rattle.std.specs.List.{insert, AllByRecursion}
+use Rattle.std.specs.Ordering.{MatchOrdering}
 use Rattle.ordered.specs.Ranks.{rises, Rises, found, placed, within, without, Located}
 
 module _ {X : Type 0} (place : X → ℕ) where
@@ -163,3 +164,9 @@ module _ {X : Type 0} (place : X → ℕ) where
       let s : ltb (suc a) (suc (length xs)) ≡ ltb a (length xs) = grind (arith, nat_tests) in
       rw (w, u) (s ∙ ih))
       (cases_eq (place x) k)
+
+-- where the first is below the second, it is the one of the three that the order says of less
+pub below_of : (A B C : Type 0) (o : Ordering) → MatchOrdering o A B C → is_lt o ≡ true → A
+below_of A B C Less m e = m
+below_of A B C Equal m e = absurd (true≢false (sym e))
+below_of A B C Greater m e = absurd (true≢false (sym e))

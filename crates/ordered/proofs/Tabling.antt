@@ -1,23 +1,13 @@
 -- Records at the front of places.
-use Rattle.std.proofs.Common.{◌≡◌, ℕ, zero, suc, ◌+◌, ◌-◌, ◌<◌, ◌≤◌, min, true, false, cond, eqb, ltb, List, [], ◌∷◌, ◌++◌, length, get_or, take, drop, set, is_some, Some, None, Ok, Err, sym, refl, ap, ◌∙◌, subst, ⊎_elim, arith}
+use Rattle.std.proofs.Common.{◌≡◌, ℕ, ◌+◌, ◌-◌, ◌<◌, ◌≤◌, min, true, false, cond, eqb, ltb, List, [], ◌∷◌, ◌++◌, length, get_or, take, drop, set, is_some, Some, Ok, Err, sym, refl, ap, ◌∙◌, subst, ⊎_elim, arith}
 use Rattle.std.proofs.lemmas.Bool.{lt-ltb, le-ltb, cases_order, cases_lt, or_left, or_right, or_from}
 use Rattle.std.specs.List.{insert}
-use Rattle.std.proofs.lemmas.List.{append-nil, append_assoc, length-append, length-take, length-take-le, length-set, length-drop, get_or-take, get_or-drop, get_or_append_left, get_or-append_right, same_lists, drop_at, drop-drop, take-append-drop, take_all, take_at, take_more, drop_more, set-append_left, set-append_right}
+use Rattle.std.proofs.lemmas.List.{append-nil, append_assoc, length-append, length-take-le, length-set, length-drop, get_or-take, get_or-drop, get_or_append_left, get_or-append_right, same_lists, drop_at, drop-drop, take-append-drop, take_all, take_at, take_more, drop_more, set-append_left, set-append_right}
 use Rattle.std.proofs.lemmas.List.Edits.{length-insert, get_or-insert_below, get_or-insert_at, get_or-insert_above}
-use Rattle.ordered.specs.Ranks.{Rises, nth, found, placed, within, without, Located}
+use Rattle.ordered.specs.Ranks.{Rises, found, placed, within, without, Located}
 use Rattle.ordered.specs.Tables.{State, records, room, Sound, holding, finds_place}
 use Rattle.ordered.specs.Filing.{lent, Kept}
 use Rattle.ordered.proofs.Ordering.{found_placed, found_without, placed_rises, without_rises, found_here, found_nowhere, placed_over, placed_between, without_more, without_fewer}
-
-pub nth_at : {X : Type 0} (xs : List X) (i : ℕ) (d : X) → i < length xs → nth xs i ≡ Some (get_or xs i d)
-nth_at [] i d h = absurd (omega arith)
-nth_at (x ∷ xs) zero d h = refl
-nth_at (x ∷ xs) (suc i) d h = nth_at xs i d (omega arith)
-
-pub nth_past : {X : Type 0} (xs : List X) (i : ℕ) → length xs ≤ i → nth xs i ≡ None
-nth_past [] i h = refl
-nth_past (x ∷ xs) zero h = absurd (omega arith)
-nth_past (x ∷ xs) (suc i) h = nth_past xs i (omega arith)
 
 -- a table that holds other records than before
 pub records_holding : {X : Type 0} (xs : List X) (s : State X) → records (holding xs s) ≡ xs
@@ -43,10 +33,8 @@ front m held ps e =
     (cases_lt held (length ps))
 
 module _ {X : Type 0} (place : X → ℕ) where
-  pub record_here : (k held at : ℕ) (ps : List X) (x : X) → Located place k (take held ps) (Ok at) → x ≡ get_or ps at x → Rises place (take held ps) → Some x ≡ found place k (take held ps)
-  record_here k held at ps x l e c =
-      let h : at < held = omega (arith, l.0, length-take held ps) in
-      ap Some (e ∙ sym (get_or-take held ps at x h)) ∙ sym (found_here place k 0 at (take held ps) c l x)
+  pub record_here : (k at : ℕ) (xs : List X) (x : X) → Located place k xs (Ok at) → x ≡ get_or xs at x → Rises place xs → Some x ≡ found place k xs
+  record_here k at xs x l e c = ap Some e ∙ sym (found_here place k 0 at xs c l x)
 
   -- a record put
   module _ (r : X) (limit held : ℕ) (ps : List X) (s : Sound place (lent ps limit held)) where

@@ -1,16 +1,16 @@
 -- What the functions over places promise the table.
-use Rattle.std.specs.Prelude.{◌≡◌, ℕ, ◌≤◌, true, false, cond, List, ◌++◌, length, take, drop, is_some, Some, None, Option, ◌==◌, nat_lt}
+use Rattle.std.specs.Prelude.{◌≡◌, ℕ, ◌≤◌, true, false, cond, List, ◌++◌, length, take, drop, is_some, Some, None, Ok, Err, Result, ◌==◌, nat_lt}
 use Rattle.ordered.specs.Ranks.{Rises, found, placed, within, without}
 use Rattle.ordered.specs.Tables.{State, records, Sound, holding, finds_place}
 
 abbrev pub lent : {X : Type 0} → List X → ℕ → ℕ → State X
 lent places limit held = record { places = places; limit = limit; held = held }
 
--- the new number of places that are taken, or none
-abbrev pub Filed : {X : Type 0} → (X → ℕ) → X → ℕ → ℕ → List X → Option ℕ → List X → Type 0
-Filed place r limit held before None after =
+-- the new number of places that are taken, or the refusal
+abbrev pub Filed : {X E : Type 0} → (X → ℕ) → X → ℕ → ℕ → List X → Result ℕ E → List X → Type 0
+Filed place r limit held before (Err full) after =
     Sound place (lent before limit held) → (finds_place place r (lent before limit held) ≡ false) × (after ≡ before)
-Filed place r limit held before (Some n) after =
+Filed place r limit held before (Ok n) after =
     Sound place (lent before limit held) → (finds_place place r (lent before limit held) ≡ true) × (lent after limit n ≡ holding (placed place r (records (lent before limit held))) (lent before limit held)) × Sound place (lent after limit n) × ((k : ℕ) → found place k (records (lent after limit n)) ≡ cond (place r == k) (Some r) (found place k (records (lent before limit held))))
 
 -- how many records are left, behind whom every place is as it was

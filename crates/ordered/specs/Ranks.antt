@@ -1,5 +1,5 @@
 -- Records in the order of a rank: what is found under a rank, and what is left once a record is put or records are removed.
-use Rattle.std.specs.Prelude.{◌≡◌, ℕ, zero, suc, ◌<◌, ◌≤◌, Bool, true, cond, ◌&&◌, List, [], ◌∷◌, length, Some, None, Ok, Err, Option, Result, ◌==◌, nat_le, nat_lt, slice_index_or}
+use Rattle.std.specs.Prelude.{◌≡◌, ℕ, suc, ◌<◌, ◌≤◌, Bool, true, cond, ◌&&◌, List, [], ◌∷◌, length, Some, None, Ok, Err, Option, Result, ◌==◌, nat_le, nat_lt, slice_index_or}
 
 -- the ranks rise, so that none stands twice, and none is below `low`
 abbrev pub rises : {X : Type 0} → (X → ℕ) → ℕ → List X → Bool
@@ -8,12 +8,6 @@ rises place low (x ∷ xs) = nat_le low (place x) && rises place (suc (place x))
 
 abbrev pub Rises : {X : Type 0} → (X → ℕ) → List X → Type 0
 Rises place xs = rises place 0 xs ≡ true
-
--- the record at an index
-abbrev pub nth : {X : Type 0} → List X → ℕ → Option X
-nth [] i = None
-nth (x ∷ xs) zero = Some x
-nth (x ∷ xs) (suc i) = nth xs i
 
 -- the record of this rank
 abbrev pub found : {X : Type 0} → (X → ℕ) → ℕ → List X → Option X

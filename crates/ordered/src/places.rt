@@ -1,37 +1,27 @@
 //! Records at the front of places, in the order of their keys.
 
 ghost use Rattle.std.specs.Prelude.{◌≡◌, ℕ, ◌+◌, ◌-◌, ◌<◌, ◌≤◌, true, length, take, Err, slice_index_or, slice_set};
-ghost use Rattle.ordered.specs.Ranks.{Located, nth, found, within, without};
+ghost use Rattle.ordered.specs.Ranks.{Located, found, within, without};
 ghost use Rattle.ordered.specs.Ranks.{Rises};
 ghost use Rattle.ordered.specs.Filing.{Filed, Kept};
 
+use crate::table::Full;
 use crate::{Key, Keyed};
 use std::cmp::Ordering;
 
-/// How many of the first `held` places there are.
-pub(crate) fn count<R>(places: &[R], held: usize) -> usize
-    ensures { result ≡ length (take held places.now) }
+/// The records in the first `held` places.
+pub(crate) fn front<R>(places: &[R], held: usize) -> &[R]
+    ensures { result.now ≡ take held places.now }
 {
-    held.min(places.len())
-}
-
-/// The record at an index, among those in the first `held` places.
-pub(crate) fn record_at<R: Copy>(places: &[R], held: usize, index: usize) -> Option<R>
-    ensures { result ≡ nth (take held places.now) index }
-{
-    if index < held && index < places.len() {
-        Some(places[index])
-    } else {
-        None
-    }
+    &places[..held.min(places.len())]
 }
 
 /// Where the key stands, or where it would: the search goes up from the lowest key, and no further than the first that is not below.
 fn locate<R: Keyed>(records: &[R], key: &R::Id) -> Result<usize, usize>
     ensures { Located R.Keyed.place (R.Id.Key.rank key.now) records.now result }
 {
-    for i in 0..records.len() {
-        match records[i].key().order(key) {
+    for (i, record) in records.iter().enumerate() {
+        match record.key().order(key) {
             Ordering::Less => {}
             Ordering::Equal => return Ok(i),
             Ordering::Greater => return Err(i),
@@ -40,13 +30,12 @@ fn locate<R: Keyed>(records: &[R], key: &R::Id) -> Result<usize, usize>
     Err(records.len())
 }
 
-/// The record with the key, among those in the first `held` places.
-pub(crate) fn record_of<R: Keyed>(places: &[R], held: usize, key: &R::Id) -> Option<R>
-    ensures { Rises R.Keyed.place (take held places.now) → result ≡ found R.Keyed.place (R.Id.Key.rank key.now) (take held places.now) }
+/// The record with the key.
+pub(crate) fn find<R: Keyed>(records: &[R], key: &R::Id) -> Option<R>
+    ensures { Rises R.Keyed.place records.now → result ≡ found R.Keyed.place (R.Id.Key.rank key.now) records.now }
 {
-    let held = held.min(places.len());
-    match locate(&places[0..held], key) {
-        Ok(at) => Some(places[at]),
+    match locate(records, key) {
+        Ok(at) => Some(records[at]),
         Err(_) => None,
     }
 }
@@ -59,11 +48,7 @@ fn insert<R: Copy>(places: &mut [R], held: usize, at: usize, item: R)
     ensures above { (k : ℕ) (d : R) → at < k → k ≤ held → slice_index_or places.new k d ≡ slice_index_or places.old (k - 1) d }
     ensures rest { (k : ℕ) (d : R) → held < k → slice_index_or places.new k d ≡ slice_index_or places.old k d }
 {
-    let mut i = held;
-    while i > at {
-        places[i] = places[i - 1];
-        i -= 1;
-    }
+    places.copy_within(at..held, at + 1);
     places[at] = item;
 }
 
@@ -76,21 +61,26 @@ fn replace<R: Copy>(places: &mut [R], at: usize, item: R)
 }
 
 /// Puts a record among those in the first `held` places, of which `limit` may be taken; answers how many are taken then.
-pub(crate) fn put<R: Keyed>(places: &mut [R], limit: usize, held: usize, item: R) -> Option<usize>
+pub(crate) fn put<R: Keyed>(
+    places: &mut [R],
+    limit: usize,
+    held: usize,
+    item: R,
+) -> Result<usize, Full>
     ensures { Filed R.Keyed.place item limit held places.old result places.new }
 {
     let held = held.min(places.len());
-    match locate(&places[0..held], &item.key()) {
+    match locate(&places[..held], &item.key()) {
         Ok(at) => {
             replace(places, at, item);
-            Some(held)
+            Ok(held)
         }
         Err(at) => {
             if held >= limit.min(places.len()) {
-                return None;
+                return Err(Full);
             }
             insert(places, held, at, item);
-            Some(held + 1)
+            Ok(held + 1)
         }
     }
 }
@@ -99,14 +89,10 @@ pub(crate) fn put<R: Keyed>(places: &mut [R], limit: usize, held: usize, item: R
 fn is_above<R: Keyed>(records: &[R], key: &R::Id) -> bool
     ensures { Rises R.Keyed.place records.now → result ≡ true → Located R.Keyed.place (R.Id.Key.rank key.now) records.now (Err (length records.now)) }
 {
-    let count = records.len();
-    if count == 0 {
+    let Some(last) = records.last() else {
         return true;
-    }
-    match records[count - 1].key().order(key) {
-        Ordering::Less => true,
-        _ => false,
-    }
+    };
+    last.key().order(key).is_lt()
 }
 
 /// Puts a record as `put` does, at once where its key is above all others.
@@ -115,26 +101,22 @@ pub(crate) fn append<R: Keyed>(
     limit: usize,
     held: usize,
     item: R,
-) -> Option<usize>
+) -> Result<usize, Full>
     ensures { Filed R.Keyed.place item limit held places.old result places.new }
 {
     let end = held.min(places.len());
-    if end >= limit.min(places.len()) || !is_above(&places[0..end], &item.key()) {
+    if end >= limit.min(places.len()) || !is_above(&places[..end], &item.key()) {
         return put(places, limit, held, item);
     }
     replace(places, end, item);
-    Some(end + 1)
+    Ok(end + 1)
 }
 
 /// Whether the key is from the first to the last.
 fn is_within<K: Key>(key: &K, first: &K, last: &K) -> bool
     ensures { result ≡ within (K.Key.rank first.now) (K.Key.rank last.now) (K.Key.rank key.now) }
 {
-    match (key.order(first), key.order(last)) {
-        (Ordering::Less, _) => false,
-        (_, Ordering::Greater) => false,
-        _ => true,
-    }
+    key.order(first).is_ge() && key.order(last).is_le()
 }
 
 /// Removes the records from the first key to the last among those in the first `held` places; answers how many are left.
@@ -142,6 +124,7 @@ pub(crate) fn remove<R: Keyed>(places: &mut [R], held: usize, first: &R::Id, las
     ensures { Kept R.Keyed.place (R.Id.Key.rank first.now) (R.Id.Key.rank last.now) held places.old result places.new }
 {
     let mut left = 0;
+    // By index, since each turn reads one of the places and writes another.
     for i in 0..held.min(places.len()) {
         let record = places[i];
         if !is_within(&record.key(), first, last) {

@@ -1,14 +1,14 @@
 //! The ordered table.
 
-ghost use Rattle.std.specs.Prelude.{◌≡◌, ℕ, ◌-◌, [], length, is_some};
-ghost use Rattle.ordered.specs.Ranks.{found, nth, without};
+ghost use Rattle.std.specs.Prelude.{◌≡◌, ℕ, ◌-◌, ◌↔◌, [], length, is_some, slice_get, IsTrue};
+ghost use Rattle.ordered.specs.Ranks.{found, without};
 ghost use Rattle.ordered.specs.Tables.{State, state_of, records, room, Sound, holding, Puts, FindsPut, FindsRest};
 
 use crate::Keyed;
-use crate::places::{append, count, put, record_at, record_of, remove};
+use crate::places::{append, find, front, put, remove};
 
 /// Every place that counts is taken.
-#[derive(Clone, Copy)]
+#[derive(Clone, Copy, Debug, PartialEq, Eq)]
 pub struct Full;
 
 /// Records in the order of their keys, none with the key of another, at the front of places that the caller lends.
@@ -33,11 +33,25 @@ impl<'a, R: Keyed> Table<'a, R> {
         }
     }
 
+    /// The records, in the order of their keys.
+    pub fn as_slice(&self) -> &[R]
+        ensures { result.now ≡ records (state_of self.now) }
+    {
+        front(self.places, self.held)
+    }
+
     /// How many records it holds.
     pub fn len(&self) -> usize
         ensures { result ≡ length (records (state_of self.now)) }
     {
-        count(self.places, self.held)
+        self.as_slice().len()
+    }
+
+    /// Whether it holds no record.
+    pub fn is_empty(&self) -> bool
+        ensures { IsTrue result ↔ (records (state_of self.now) ≡ []) }
+    {
+        self.as_slice().is_empty()
     }
 
     /// How many records it can hold.
@@ -56,16 +70,16 @@ impl<'a, R: Keyed> Table<'a, R> {
 
     /// The record at an index, counted from the lowest key.
     pub fn get(&self, index: usize) -> Option<R>
-        ensures { result ≡ nth (records (state_of self.now)) index }
+        ensures { result ≡ slice_get (records (state_of self.now)) index }
     {
-        record_at(self.places, self.held, index)
+        self.as_slice().get(index).copied()
     }
 
     /// The record with the key.
     pub fn find(&self, key: &R::Id) -> Option<R>
         ensures { Sound R.Keyed.place (state_of self.now) → result ≡ found R.Keyed.place (R.Id.Key.rank key.now) (records (state_of self.now)) }
     {
-        record_of(self.places, self.held, key)
+        find(self.as_slice(), key)
     }
 
     /// Adds the record in its order, or replaces the one that has its key.
@@ -76,13 +90,8 @@ impl<'a, R: Keyed> Table<'a, R> {
         ensures same { self.new.places.ghost_name ≡ self.old.places.ghost_name }
     {
         let (limit, held) = (self.limit, self.held);
-        match put(self.places, limit, held, item) {
-            Some(held) => {
-                self.held = held;
-                Ok(())
-            }
-            None => Err(Full),
-        }
+        self.held = put(self.places, limit, held, item)?;
+        Ok(())
     }
 
     /// Does what `put` does, without a search where the key is above all others: for records that come in order.
@@ -93,13 +102,8 @@ impl<'a, R: Keyed> Table<'a, R> {
         ensures same { self.new.places.ghost_name ≡ self.old.places.ghost_name }
     {
         let (limit, held) = (self.limit, self.held);
-        match append(self.places, limit, held, item) {
-            Some(count) => {
-                self.held = count;
-                Ok(())
-            }
-            None => Err(Full),
-        }
+        self.held = append(self.places, limit, held, item)?;
+        Ok(())
     }
 
     /// Removes the record with the key, and answers whether there was one.

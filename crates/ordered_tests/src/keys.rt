@@ -43,10 +43,7 @@ impl Key for Spot {
 
     fn order(&self, other: &Spot) -> Ordering {
         let (slot, its_slot) = (self.slot, other.slot);
-        match self.address.cmp(&other.address) {
-            Ordering::Equal => slot.cmp(&its_slot),
-            unequal => unequal,
-        }
+        self.address.cmp(&other.address).then(slot.cmp(&its_slot))
     }
 }
 
@@ -79,13 +76,10 @@ impl Key for EventKey {
     fn order(&self, other: &EventKey) -> Ordering {
         let (journal, its_journal) = (self.journal, other.journal);
         let (entry, its_entry) = (self.entry, other.entry);
-        match self.address.cmp(&other.address) {
-            Ordering::Equal => match journal.cmp(&its_journal) {
-                Ordering::Equal => entry.cmp(&its_entry),
-                unequal => unequal,
-            },
-            unequal => unequal,
-        }
+        self.address
+            .cmp(&other.address)
+            .then(journal.cmp(&its_journal))
+            .then(entry.cmp(&its_entry))
     }
 }
 

@@ -9,9 +9,6 @@ mod tests {
     use ordered::Table;
     use std::test::Fail;
 
-    // What no call answers otherwise here.
-    const NONE: usize = 999;
-
     #[derive(Clone, Copy)]
     enum Call {
         Put(u16, u8),
@@ -23,29 +20,35 @@ mod tests {
         Clear,
     }
 
-    // What the table answers: 1 for a granted put or a record removed, 0 for a refused one or none, a record by its kind.
-    fn apply(table: &mut Table<'_, Meter>, call: Call) -> usize {
+    // What the table answers.
+    #[derive(Clone, Copy, Debug, PartialEq, Eq)]
+    enum Answer {
+        Granted,
+        Refused,
+        Removed(bool),
+        Kind(Option<u8>),
+        Count(usize),
+        Cleared,
+    }
+
+    fn apply(table: &mut Table<'_, Meter>, call: Call) -> Answer {
         match call {
             Call::Put(address, kind) => {
                 let number = Number(address);
-                table.put(Meter { number, kind }).is_ok() as usize
+                match table.put(Meter { number, kind }) {
+                    Ok(()) => Answer::Granted,
+                    Err(_) => Answer::Refused,
+                }
             }
-            Call::Remove(address) => table.remove(&Number(address)) as usize,
-            Call::Find(address) => kind_of(table.find(&Number(address))),
-            Call::At(index) => kind_of(table.get(index)),
-            Call::Len => table.len(),
-            Call::Free => table.free(),
+            Call::Remove(address) => Answer::Removed(table.remove(&Number(address))),
+            Call::Find(address) => Answer::Kind(table.find(&Number(address)).map(|m| m.kind)),
+            Call::At(index) => Answer::Kind(table.get(index).map(|m| m.kind)),
+            Call::Len => Answer::Count(table.len()),
+            Call::Free => Answer::Count(table.free()),
             Call::Clear => {
                 table.clear();
-                0
+                Answer::Cleared
             }
-        }
-    }
-
-    fn kind_of(meter: Option<Meter>) -> usize {
-        match meter {
-            Some(meter) => meter.kind as usize,
-            None => NONE,
         }
     }
 
@@ -57,24 +60,24 @@ mod tests {
     #[test]
     fn puts_replaces_finds_and_removes(rt: HostRuntime) {
         let calls = [
-            (Call::Put(300, 1), 1),
-            (Call::Put(5, 2), 1),
-            (Call::Put(70, 3), 1),
-            (Call::Put(70, 4), 1),
-            (Call::Len, 3),
-            (Call::At(0), 2),
-            (Call::At(1), 4),
-            (Call::At(2), 1),
-            (Call::At(3), NONE),
-            (Call::Find(70), 4),
-            (Call::Find(71), NONE),
-            (Call::Remove(6), 0),
-            (Call::Remove(5), 1),
-            (Call::Remove(5), 0),
-            (Call::Free, 3),
-            (Call::At(0), 4),
-            (Call::Clear, 0),
-            (Call::Find(70), NONE),
+            (Call::Put(300, 1), Answer::Granted),
+            (Call::Put(5, 2), Answer::Granted),
+            (Call::Put(70, 3), Answer::Granted),
+            (Call::Put(70, 4), Answer::Granted),
+            (Call::Len, Answer::Count(3)),
+            (Call::At(0), Answer::Kind(Some(2))),
+            (Call::At(1), Answer::Kind(Some(4))),
+            (Call::At(2), Answer::Kind(Some(1))),
+            (Call::At(3), Answer::Kind(None)),
+            (Call::Find(70), Answer::Kind(Some(4))),
+            (Call::Find(71), Answer::Kind(None)),
+            (Call::Remove(6), Answer::Removed(false)),
+            (Call::Remove(5), Answer::Removed(true)),
+            (Call::Remove(5), Answer::Removed(false)),
+            (Call::Free, Answer::Count(3)),
+            (Call::At(0), Answer::Kind(Some(4))),
+            (Call::Clear, Answer::Cleared),
+            (Call::Find(70), Answer::Kind(None)),
         ];
         let mut places = [BLANK; 5];
         let mut table = Table::new(&mut places, 5);
@@ -86,16 +89,16 @@ mod tests {
     #[test]
     fn fills_up_to_the_limit(rt: HostRuntime) {
         let calls = [
-            (Call::Free, 2),
-            (Call::Put(9, 1), 1),
-            (Call::Put(3, 2), 1),
-            (Call::Free, 0),
-            (Call::Put(4, 3), 0),
-            (Call::Put(9, 5), 1),
-            (Call::Remove(3), 1),
-            (Call::Put(4, 3), 1),
-            (Call::At(0), 3),
-            (Call::At(1), 5),
+            (Call::Free, Answer::Count(2)),
+            (Call::Put(9, 1), Answer::Granted),
+            (Call::Put(3, 2), Answer::Granted),
+            (Call::Free, Answer::Count(0)),
+            (Call::Put(4, 3), Answer::Refused),
+            (Call::Put(9, 5), Answer::Granted),
+            (Call::Remove(3), Answer::Removed(true)),
+            (Call::Put(4, 3), Answer::Granted),
+            (Call::At(0), Answer::Kind(Some(3))),
+            (Call::At(1), Answer::Kind(Some(5))),
         ];
         let mut places = [BLANK; 4];
         let mut table = Table::new(&mut places, 2);
@@ -144,17 +147,18 @@ mod tests {
         };
         let mut places = [Event { key, code: 0 }; 4];
         let mut table = Table::new(&mut places, 4);
-        for i in [2, 0, 3, 1] {
-            let (address, journal, entry) = rising[i];
+        for i in [2, 0, 3, 1u8] {
+            let (address, journal, entry) = rising[usize::from(i)];
             let key = EventKey {
                 address,
                 journal,
                 entry,
             };
-            let _ = table.put(Event { key, code: i as u8 });
+            let _ = table.put(Event { key, code: i });
         }
-        for i in 0..4 {
-            assert_eq!(rt; table.get(i).ok_or("none")?.code, i as u8);
+        for i in 0..4u8 {
+            let event = table.get(usize::from(i)).ok_or("none")?;
+            assert_eq!(rt; event.code, i);
         }
         Ok(())
     }

@@ -4,4 +4,4 @@ use Rattle.leb128.proofs.number.read_spelling.Goals as goal
 
 pub returns : goal.returns
 unfolding Back Only
-returns c = record { spelled = spelled c.args.bytes.now c.args.at _ c.read_groups.ensures; back = number_back; only = number_only }
+returns c = record { spelled = spelled c.args.bytes.now _ c.read_groups.ensures; back = number_back; only = number_only }

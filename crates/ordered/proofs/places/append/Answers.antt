@@ -1,4 +1,4 @@
-use Rattle.std.proofs.Common.{◌≡◌, ℕ, ◌+◌, ◌-◌, length, get_or, take, set, Err, sym, refl, ap, ◌∙◌, subst, arith, length-set, length-take}
+use Rattle.std.proofs.Common.{◌≡◌, ℕ, ◌+◌, length, get_or, take, set, Err, sym, refl, ap, ◌∙◌, subst, arith, length-set, length-take}
 use Rattle.std.proofs.lemmas.List.{get_or-set_same, get_or-set_other}
 use Rattle.ordered.specs.Ranks.{Located}
 use Rattle.ordered.proofs.Tabling.{front, PutIn, put_between}
@@ -12,7 +12,7 @@ returns g c =
     let p = g.R.Keyed.place in
     let end = c.min-end.result in
     let after = c.replace.new.places in
-    let e : take (end - 0) ps ≡ take held ps = front (end - 0) held ps (omega (arith, c.min-end.ensures)) in
+    let e : take end ps ≡ take held ps = front end held ps (omega (arith, c.min-end.ensures)) in
     λ s.
     let q : held ≡ end = omega (arith, s.fits, c.min-end.ensures) in
     let l = rw (c.key.ensures, e) at c.if-not-is_above.ensures in
