@@ -29,12 +29,12 @@ pub enum Cause {
 /// What a reader answers: the value and the bytes behind it, or the cause of the refusal.
 pub type Parsed<'a, T> = Result<(T, &'a [u8]), Cause>;
 
-impl Cause {
+impl From<Cause> for u8 {
+    ghost from_gives = { λ cause number. number ≡ cause_number cause };
+
     /// The refusal's number; all rules on values share one.
-    pub fn number(self) -> u8
-        ensures { result ≡ cause_number self }
-    {
-        match self {
+    fn from(cause: Cause) -> u8 {
+        match cause {
             Cause::Ended => 51,
             Cause::LongSpelling | Cause::TooLarge => 52,
             Cause::ZeroStep

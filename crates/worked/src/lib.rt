@@ -46,8 +46,8 @@ pub fn saved_examples() -> usize
     saved_examples_hold();
     if number_size(127) == 1
         && number_size(128) == 2
-        && Cause::LongSpelling.number() == 52
-        && ReadRefusal::Broken(Cause::NoStanding).number() == 53
+        && u8::from(Cause::LongSpelling) == 52
+        && u8::from(ReadRefusal::Broken(Cause::NoStanding)) == 53
     {
         SAVED_EXAMPLES
     } else {
