@@ -4,3 +4,6 @@ pub mod Judging
 pub mod Passing
 pub mod Reading
 pub mod Writing
+pub mod Sinks
+pub mod SinkLaws
+pub mod Opening

@@ -6,8 +6,9 @@ mod parts;
 mod passes;
 mod reading;
 mod refusal;
+mod sink;
 mod writing;
 
 pub use reading::read_book;
-pub use refusal::ReadRefusal;
-pub use writing::{WriteRefusal, write_book};
+pub use refusal::{ReadRefusal, WriteRefusal};
+pub use writing::write_book;
