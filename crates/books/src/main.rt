@@ -1,10 +1,10 @@
 //! Writes books, damages them and reads them, and prints what comes of each.
 #![tactic(auto)]
 
-use book::{read_book, write_book};
+use book::{ReadRefusal, WriteRefusal, read_book, write_book};
 use forms::kinds::{Meter, Reading, Standing};
 use numbering::{Energy, Parameter, TextField};
-use ordered::Table;
+use ordered::{Keyed, Table};
 use protocol::counters::Counters;
 use protocol::record::Record;
 use std::alloc::{AllocError, Global};
@@ -113,67 +113,63 @@ fn counter() -> Record {
     }
 }
 
-/// Puts meters and records of meter 5 into two files, and writes their book into a buffer of so many bytes.
+/// A reading of meter 5.
+fn of_five(record: Record) -> Reading {
+    Reading { address: 5, record }
+}
+
+/// Puts meters and readings into two files, and writes their book into a buffer of so many bytes.
 fn written(
     heap: Global,
     meters: &[Meter],
-    records: &[Record],
+    readings: &[Reading],
     room: usize,
-) -> Result<Result<Vec<u8>, u8>, AllocError> {
+) -> Result<Result<Vec<u8>, WriteRefusal>, AllocError> {
     let mut meter_places = [NO_METER; METERS];
     let mut reading_places = [NO_READING; PLACES];
     let mut meter_file = Table::new(&mut meter_places, METERS);
     let mut reading_file = Table::new(&mut reading_places, PLACES);
-    put_meters(&mut meter_file, meters);
-    put_records(&mut reading_file, records);
+    put_all(&mut meter_file, meters);
+    put_all(&mut reading_file, readings);
     save(heap, &meter_file, &reading_file, room)
 }
 
-/// Puts meters as long as there are places.
-fn put_meters(file: &mut Table<'_, Meter>, meters: &[Meter]) {
-    for meter in meters {
-        if file.put(*meter).is_err() {
-            return;
-        }
-    }
-}
-
-/// Puts records of meter 5 as long as there are places.
-fn put_records(file: &mut Table<'_, Reading>, records: &[Record]) {
+/// Puts records as long as there are places.
+fn put_all<R: Keyed>(file: &mut Table<'_, R>, records: &[R]) {
     for record in records {
-        let reading = Reading {
-            address: 5,
-            record: *record,
-        };
-        if file.put(reading).is_err() {
+        if file.put(*record).is_err() {
             return;
         }
     }
 }
 
-/// The book of two files, or the number of its refusal.
+/// The book of two files, or its refusal.
 fn save(
     heap: Global,
     meters: &Table<'_, Meter>,
     readings: &Table<'_, Reading>,
     room: usize,
-) -> Result<Result<Vec<u8>, u8>, AllocError> {
+) -> Result<Result<Vec<u8>, WriteRefusal>, AllocError> {
     let mut buffer = vec![in heap; 0; room]?;
     match write_book(meters, readings, &mut buffer) {
         Ok(length) => {
             buffer.truncate(length);
             Ok(Ok(buffer))
         }
-        Err(refusal) => Ok(Err(refusal as u8)),
+        Err(refusal) => Ok(Err(refusal)),
     }
 }
 
 /// Prints the book that was written, or the refusal.
-fn print_book(rt: &HostRuntime, title: &str, book: &Result<Vec<u8>, u8>) -> io::Result<()> {
+fn print_book(
+    rt: &HostRuntime,
+    title: &str,
+    book: &Result<Vec<u8>, WriteRefusal>,
+) -> io::Result<()> {
     let mut outcome = String::new(rt.alloc());
     match book {
         Ok(bytes) => write_bytes(&mut outcome, bytes)?,
-        Err(number) => write_refusal(&mut outcome, *number)?,
+        Err(refusal) => write_refusal(&mut outcome, u8::from(*refusal))?,
     }
     println!(rt; "write {title}: {outcome}")
 }
@@ -183,21 +179,22 @@ fn try_write(
     rt: &HostRuntime,
     title: &str,
     meters: &[Meter],
-    records: &[Record],
+    readings: &[Reading],
     room: usize,
 ) -> io::Result<()> {
-    let book = written(rt.alloc(), meters, records, room)?;
+    let book = written(rt.alloc(), meters, readings, room)?;
     print_book(rt, title, &book)
 }
 
 /// Writes small books, and one into buffers that just take it and just do not.
 fn write_worked(rt: &HostRuntime) -> io::Result<()> {
     let one = [standing_meter()];
+    let warm = [of_five(temperature())];
     try_write(rt, "no meter", &[], &[], ROOM)?;
     try_write(rt, "no meter into no byte", &[], &[], 0)?;
     try_write(rt, "two meters", &[new_meter(300), new_meter(5)], &[], ROOM)?;
-    try_write(rt, "one record into 9 bytes", &one, &[temperature()], 9)?;
-    try_write(rt, "one record into 8 bytes", &one, &[temperature()], 8)
+    try_write(rt, "one record into 9 bytes", &one, &warm, 9)?;
+    try_write(rt, "one record into 8 bytes", &one, &warm, 8)
 }
 
 /// Writes a book with a record of each kind, put in another order than theirs, and answers it.
@@ -207,8 +204,8 @@ fn full_book(rt: &HostRuntime) -> io::Result<Vec<u8>> {
         version: 4,
         info: 1,
     };
-    let records = [temperature(), street(), counter(), ping];
-    let book = written(rt.alloc(), &meters, &records, ROOM)?;
+    let readings = [temperature(), street(), counter(), ping].map(of_five);
+    let book = written(rt.alloc(), &meters, &readings, ROOM)?;
     print_book(rt, "four records", &book)?;
     match book {
         Ok(bytes) => Ok(bytes),
@@ -221,17 +218,13 @@ fn try_read(rt: &HostRuntime, title: &str, book: &[u8]) -> io::Result<()> {
     read_into(rt, title, book, METERS, PLACES)
 }
 
-/// What comes of reading a book.
+/// What two files hold of a book that was granted.
 #[derive(Clone, Copy)]
-enum Outcome {
-    /// By this number.
-    Refused(u8),
-    /// The files hold so much, and their book is the same again or another.
-    Granted {
-        meters: usize,
-        readings: usize,
-        same: bool,
-    },
+struct Granted {
+    meters: usize,
+    readings: usize,
+    /// Whether their book is the same again.
+    same: bool,
 }
 
 /// Reads a book into empty files with so many places; one that is granted is written again.
@@ -240,23 +233,23 @@ fn read(
     book: &[u8],
     meter_limit: usize,
     reading_limit: usize,
-) -> Result<Outcome, AllocError> {
+) -> Result<Result<Granted, ReadRefusal>, AllocError> {
     let mut meter_places = [NO_METER; METERS];
     let mut reading_places = [NO_READING; PLACES];
     let mut meters = Table::new(&mut meter_places, meter_limit);
     let mut readings = Table::new(&mut reading_places, reading_limit);
     if let Err(refusal) = read_book(&mut meters, &mut readings, book) {
-        return Ok(Outcome::Refused(refusal.number()));
+        return Ok(Err(refusal));
     }
     let same = match save(heap, &meters, &readings, ROOM)? {
         Ok(bytes) => bytes.as_slice() == book,
         Err(_) => false,
     };
-    Ok(Outcome::Granted {
+    Ok(Ok(Granted {
         meters: meters.len(),
         readings: readings.len(),
         same,
-    })
+    }))
 }
 
 /// Reads a book into empty files with so many places, and prints what comes of it.
@@ -268,16 +261,18 @@ fn read_into(
     reading_limit: usize,
 ) -> io::Result<()> {
     match read(rt.alloc(), book, meter_limit, reading_limit)? {
-        Outcome::Refused(number) => {
-            let mut refusal = String::new(rt.alloc());
-            write_refusal(&mut refusal, number)?;
-            println!(rt; "read {title}: {refusal}")
+        Err(refusal) => {
+            let mut words = String::new(rt.alloc());
+            write_refusal(&mut words, u8::from(refusal))?;
+            println!(rt; "read {title}: {words}")
         }
-        Outcome::Granted {
-            meters,
-            readings,
-            same,
-        } => {
+        Ok(
+            Granted {
+                meters,
+                readings,
+                same,
+            },
+        ) => {
             let again = if same {
                 "the same bytes"
             } else {
@@ -297,7 +292,8 @@ fn read_cut(rt: &HostRuntime, book: &[u8]) -> io::Result<()> {
     }
     let mut early = 0u32;
     for length in 0..book.len() {
-        if let Outcome::Refused(51) = read(rt.alloc(), &book[0..length], METERS, PLACES)? {
+        let outcome = read(rt.alloc(), &book[..length], METERS, PLACES)?;
+        if outcome.is_err_and(|refusal| u8::from(refusal) == 51) {
             early = early.saturating_add(1);
         }
     }
