@@ -89,6 +89,7 @@ fn write_groups(out: &mut [u8], at: usize, n: u32)
 {
     let mut left = n;
     let mut end = at;
+    // By index: a loop over the places themselves would leave nothing known of what it wrote.
     while left >= BASE {
         out[end] = (left % BASE) as u8 + MORE;
         left /= BASE;
