@@ -2,7 +2,7 @@
 use Rattle.std.proofs.Common.{◌≡◌, ℕ, ◌+◌, ◌-◌, ◌<◌, ◌≤◌, min, true, false, cond, eqb, ltb, List, [], ◌∷◌, ◌++◌, length, get_or, take, drop, set, is_some, Some, Ok, Err, sym, refl, ap, ◌∙◌, subst, ⊎_elim, arith}
 use Rattle.std.proofs.lemmas.Bool.{lt-ltb, le-ltb, cases_order, cases_lt, or_left, or_right, or_from}
 use Rattle.std.specs.List.{insert}
-use Rattle.std.proofs.lemmas.List.{append-nil, append_assoc, length-append, length-take-le, length-set, length-drop, get_or-take, get_or-drop, get_or_append_left, get_or-append_right, same_lists, drop_at, drop-drop, take-append-drop, take_all, take_at, take_more, drop_more, set-append_left, set-append_right}
+use Rattle.std.proofs.lemmas.List.{append-nil, append_assoc, length-append, length-take-le, length-set, length-drop, get_or-take, get_or-drop, get_or_append_left, get_or-append_right, same_lists, drop_at, drop-drop, take-append-drop, take_at, take_more, drop_more, set-append_left, set-append_right}
 use Rattle.std.proofs.lemmas.List.Edits.{length-insert, get_or-insert_below, get_or-insert_at, get_or-insert_above}
 use Rattle.ordered.specs.Ranks.{Rises, found, placed, within, without, Located}
 use Rattle.ordered.specs.Tables.{State, records, room, Sound, holding, finds_place}
@@ -23,14 +23,6 @@ holding_again xs ys s h =
 
 pub room_holding : {X : Type 0} (xs : List X) (s : State X) → length xs ≤ length s.places → room (holding xs s) ≡ room s
 room_holding xs s h = ap (min s.limit) (length-append xs (drop (length xs) s.places) ∙ omega (arith, length-drop (length xs) s.places))
-
--- as many of the first places as there are
-pub front : {X : Type 0} (m held : ℕ) (ps : List X) → m ≡ min held (length ps) → take m ps ≡ take held ps
-front m held ps e =
-    ⊎_elim
-    (λ (l : held < length ps). ap (λ n. take n ps) (omega arith))
-    (λ (l : length ps ≤ held). take_all m ps (omega arith) ∙ sym (take_all held ps l))
-    (cases_lt held (length ps))
 
 module _ {X : Type 0} (place : X → ℕ) where
   pub record_here : (k at : ℕ) (xs : List X) (x : X) → Located place k xs (Ok at) → x ≡ get_or xs at x → Rises place xs → Some x ≡ found place k xs
@@ -127,17 +119,15 @@ module _ {X : Type 0} (place : X → ℕ) where
           a ∙ sym (append_assoc (rest i) (x ∷ []) (drop (left + 1) ps)) ∙ ap (λ zs. zs ++ drop (left + 1) ps) (sym r),
         )
 
-    pub kept : (held m left : ℕ) (now : List X) → m ≡ min held (length ps) → Turn m left now → Kept place first last held ps left now
-    kept held m left now e t =
-        let f : take m ps ≡ take held ps = front m held ps e in
-        let c : left ≡ length (without place first last (take held ps)) = t.0 ∙ ap (λ zs. length (without place first last zs)) f in
-        let a : now ≡ without place first last (take held ps) ++ drop left ps = t.2 ∙ ap (λ zs. without place first last zs ++ drop left ps) f in
-        let k : take left now ≡ without place first last (take held ps) = ap (take left) a ∙ take_at (without place first last (take held ps)) (drop left ps) left (sym c) in
+    pub kept : (held left : ℕ) (now : List X) → Turn held left now → Kept place first last held ps left now
+    kept held left now t =
+        let c : left ≡ length (rest held) = t.0 in
+        let k : take left now ≡ rest held = ap (take left) t.2 ∙ take_at (rest held) (drop left ps) left (sym c) in
         let P : List X → Type 0 = λ zs. Rises place zs in
         record {
           count = c;
-          places = a ∙ ap (λ j. without place first last (take held ps) ++ drop j ps) c;
-          few = omega (arith, t.1);
+          places = t.2 ∙ ap (λ j. rest held ++ drop j ps) c;
+          few = t.1;
           rising = λ h. subst P (sym k) (without_rises place first last (take held ps) h);
           finds = λ j. ap (found place j) k ∙ found_without place first last j (take held ps);
           fewer = λ q. ap (λ n. ltb n (length (take held ps))) c ∙ ap (λ j. ltb (length (without place first j (take held ps))) (length (take held ps))) (sym q) ∙ without_fewer place first (take held ps);

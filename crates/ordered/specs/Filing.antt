@@ -9,9 +9,9 @@ lent places limit held = record { places = places; limit = limit; held = held }
 -- the new number of places that are taken, or the refusal
 abbrev pub Filed : {X E : Type 0} → (X → ℕ) → X → ℕ → ℕ → List X → Result ℕ E → List X → Type 0
 Filed place r limit held before (Err full) after =
-    Sound place (lent before limit held) → (finds_place place r (lent before limit held) ≡ false) × (after ≡ before)
+    (finds_place place r (lent before limit held) ≡ false) × (after ≡ before)
 Filed place r limit held before (Ok n) after =
-    Sound place (lent before limit held) → (finds_place place r (lent before limit held) ≡ true) × (lent after limit n ≡ holding (placed place r (records (lent before limit held))) (lent before limit held)) × Sound place (lent after limit n) × ((k : ℕ) → found place k (records (lent after limit n)) ≡ cond (place r == k) (Some r) (found place k (records (lent before limit held))))
+    (finds_place place r (lent before limit held) ≡ true) × (lent after limit n ≡ holding (placed place r (records (lent before limit held))) (lent before limit held)) × Sound place (lent after limit n) × ((k : ℕ) → found place k (records (lent after limit n)) ≡ cond (place r == k) (Some r) (found place k (records (lent before limit held))))
 
 -- how many records are left, behind whom every place is as it was
 pub record Kept {X : Type 0} (place : X → ℕ) (first last held : ℕ) (before : List X) (n : ℕ) (after : List X) : Type 0 where

@@ -9,7 +9,7 @@ pub record State (X : Type 0) : Type 0 where
   pub limit : ℕ
   pub held : ℕ
 
-abbrev pub state_of : {X K : Type 0} → Table X K → State X
+abbrev pub state_of : {X K : Type 0} {r : _} {k : _} → Table X K r k → State X
 state_of t = record { places = t.places.now; limit = t.limit; held = t.held }
 
 -- the records stand in the first places

@@ -3,18 +3,12 @@
 ghost use Rattle.std.specs.Prelude.{◌≡◌, ℕ, ◌+◌, ◌-◌, ◌<◌, ◌≤◌, true, length, take, Err, slice_index_or, slice_set};
 ghost use Rattle.ordered.specs.Ranks.{Located, found, within, without};
 ghost use Rattle.ordered.specs.Ranks.{Rises};
-ghost use Rattle.ordered.specs.Filing.{Filed, Kept};
+ghost use Rattle.ordered.specs.Filing.{lent, Filed, Kept};
+ghost use Rattle.ordered.specs.Tables.{Sound};
 
 use crate::table::Full;
 use crate::{Key, Keyed};
 use std::cmp::Ordering;
-
-/// The records in the first `held` places.
-pub(crate) fn front<R>(places: &[R], held: usize) -> &[R]
-    ensures { result.now ≡ take held places.now }
-{
-    &places[..held.min(places.len())]
-}
 
 /// Where the key stands, or where it would: the search goes up from the lowest key, and no further than the first that is not below.
 fn locate<R: Keyed>(records: &[R], key: &R::Id) -> Result<usize, usize>
@@ -67,9 +61,9 @@ pub(crate) fn put<R: Keyed>(
     held: usize,
     item: R,
 ) -> Result<usize, Full>
+    requires { Sound R.Keyed.place (lent places.old limit held) }
     ensures { Filed R.Keyed.place item limit held places.old result places.new }
 {
-    let held = held.min(places.len());
     match locate(&places[..held], &item.key()) {
         Ok(at) => {
             replace(places, at, item);
@@ -102,14 +96,14 @@ pub(crate) fn append<R: Keyed>(
     held: usize,
     item: R,
 ) -> Result<usize, Full>
+    requires { Sound R.Keyed.place (lent places.old limit held) }
     ensures { Filed R.Keyed.place item limit held places.old result places.new }
 {
-    let end = held.min(places.len());
-    if end >= limit.min(places.len()) || !is_above(&places[..end], &item.key()) {
+    if held >= limit.min(places.len()) || !is_above(&places[..held], &item.key()) {
         return put(places, limit, held, item);
     }
-    replace(places, end, item);
-    Ok(end + 1)
+    replace(places, held, item);
+    Ok(held + 1)
 }
 
 /// Whether the key is from the first to the last.
@@ -121,11 +115,12 @@ fn is_within<K: Key>(key: &K, first: &K, last: &K) -> bool
 
 /// Removes the records from the first key to the last among those in the first `held` places; answers how many are left.
 pub(crate) fn remove<R: Keyed>(places: &mut [R], held: usize, first: &R::Id, last: &R::Id) -> usize
+    requires { held ≤ length places.old }
     ensures { Kept R.Keyed.place (R.Id.Key.rank first.now) (R.Id.Key.rank last.now) held places.old result places.new }
 {
     let mut left = 0;
     // By index, since each turn reads one of the places and writes another.
-    for i in 0..held.min(places.len()) {
+    for i in 0..held {
         let record = places[i];
         if !is_within(&record.key(), first, last) {
             places[left] = record;

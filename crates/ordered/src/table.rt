@@ -1,11 +1,10 @@
 //! The ordered table.
 
-ghost use Rattle.std.specs.Prelude.{◌≡◌, ℕ, ◌-◌, ◌↔◌, [], length, is_some, slice_get, IsTrue};
-ghost use Rattle.ordered.specs.Ranks.{found, without};
-ghost use Rattle.ordered.specs.Tables.{State, state_of, records, room, Sound, holding, Puts, FindsPut, FindsRest};
+ghost use Rattle.std.specs.Prelude.{◌≡◌, ℕ, ◌-◌, ◌≤◌, ◌↔◌, min, [], take, length, is_some, slice_get, IsTrue};
+ghost use Rattle.ordered.specs.Ranks.{Rises, found, without};
 
 use crate::Keyed;
-use crate::places::{append, find, front, put, remove};
+use crate::places::{append, find, put, remove};
 
 /// Every place that counts is taken.
 #[derive(Clone, Copy, Debug, PartialEq, Eq)]
@@ -17,9 +16,13 @@ pub struct Table<'a, R: Keyed> {
     places: &'a mut [R],
     limit: usize,
     held: usize,
+    ghost fits: { held ≤ min limit (length places.now) },
+    ghost rising: { Rises R.Keyed.place (take held places.now) },
 }
 
 impl<'a, R: Keyed> Table<'a, R> {
+    ghost use Rattle.ordered.specs.Tables.{State, state_of, records, room, Sound, holding, Puts, FindsPut, FindsRest};
+
     /// An empty table over the caller's places, of which the first `limit` count.
     pub fn new(places: &'a mut [R], limit: usize) -> Table<'a, R>
         ensures state { state_of result ≡ record { places = places.entry.now; limit = limit; held = 0 } }
@@ -37,7 +40,7 @@ impl<'a, R: Keyed> Table<'a, R> {
     pub fn as_slice(&self) -> &[R]
         ensures { result.now ≡ records (state_of self.now) }
     {
-        front(self.places, self.held)
+        &self.places[..self.held]
     }
 
     /// How many records it holds.
@@ -65,7 +68,7 @@ impl<'a, R: Keyed> Table<'a, R> {
     pub fn free(&self) -> usize
         ensures { result ≡ room (state_of self.now) - length (records (state_of self.now)) }
     {
-        self.capacity().saturating_sub(self.len())
+        self.capacity() - self.len()
     }
 
     /// The record at an index, counted from the lowest key.
@@ -84,9 +87,9 @@ impl<'a, R: Keyed> Table<'a, R> {
 
     /// Adds the record in its order, or replaces the one that has its key.
     pub fn put(&mut self, item: R) -> Result<(), Full>
-        ensures puts { Sound R.Keyed.place (state_of self.old) → Puts R.Keyed.place item (state_of self.old) result (state_of self.new) }
-        ensures finds { Sound R.Keyed.place (state_of self.old) → FindsPut R.Keyed.place item (state_of self.old) result (state_of self.new) }
-        ensures sound { Sound R.Keyed.place (state_of self.old) → Sound R.Keyed.place (state_of self.new) }
+        ensures puts { Puts R.Keyed.place item (state_of self.old) result (state_of self.new) }
+        ensures finds { FindsPut R.Keyed.place item (state_of self.old) result (state_of self.new) }
+        ensures sound { Sound R.Keyed.place (state_of self.new) }
         ensures same { self.new.places.ghost_name ≡ self.old.places.ghost_name }
     {
         let (limit, held) = (self.limit, self.held);
@@ -96,9 +99,9 @@ impl<'a, R: Keyed> Table<'a, R> {
 
     /// Does what `put` does, without a search where the key is above all others: for records that come in order.
     pub fn append(&mut self, item: R) -> Result<(), Full>
-        ensures puts { Sound R.Keyed.place (state_of self.old) → Puts R.Keyed.place item (state_of self.old) result (state_of self.new) }
-        ensures finds { Sound R.Keyed.place (state_of self.old) → FindsPut R.Keyed.place item (state_of self.old) result (state_of self.new) }
-        ensures sound { Sound R.Keyed.place (state_of self.old) → Sound R.Keyed.place (state_of self.new) }
+        ensures puts { Puts R.Keyed.place item (state_of self.old) result (state_of self.new) }
+        ensures finds { FindsPut R.Keyed.place item (state_of self.old) result (state_of self.new) }
+        ensures sound { Sound R.Keyed.place (state_of self.new) }
         ensures same { self.new.places.ghost_name ≡ self.old.places.ghost_name }
     {
         let (limit, held) = (self.limit, self.held);
@@ -111,7 +114,7 @@ impl<'a, R: Keyed> Table<'a, R> {
         ensures held { result ≡ is_some (found R.Keyed.place (R.Id.Key.rank key.now) (records (state_of self.old))) }
         ensures left { state_of self.new ≡ holding (without R.Keyed.place (R.Id.Key.rank key.now) (R.Id.Key.rank key.now) (records (state_of self.old))) (state_of self.old) }
         ensures finds { FindsRest R.Keyed.place (R.Id.Key.rank key.now) (R.Id.Key.rank key.now) (state_of self.old) (state_of self.new) }
-        ensures sound { Sound R.Keyed.place (state_of self.old) → Sound R.Keyed.place (state_of self.new) }
+        ensures sound { Sound R.Keyed.place (state_of self.new) }
         ensures same { self.new.places.ghost_name ≡ self.old.places.ghost_name }
     {
         let held = self.held;
@@ -124,7 +127,7 @@ impl<'a, R: Keyed> Table<'a, R> {
     pub fn remove_range(&mut self, first: &R::Id, last: &R::Id)
         ensures left { state_of self.new ≡ holding (without R.Keyed.place (R.Id.Key.rank first.now) (R.Id.Key.rank last.now) (records (state_of self.old))) (state_of self.old) }
         ensures finds { FindsRest R.Keyed.place (R.Id.Key.rank first.now) (R.Id.Key.rank last.now) (state_of self.old) (state_of self.new) }
-        ensures sound { Sound R.Keyed.place (state_of self.old) → Sound R.Keyed.place (state_of self.new) }
+        ensures sound { Sound R.Keyed.place (state_of self.new) }
         ensures same { self.new.places.ghost_name ≡ self.old.places.ghost_name }
     {
         let held = self.held;
