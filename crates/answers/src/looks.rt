@@ -26,12 +26,12 @@ fn write_selector(out: &mut String, selector: Selector) -> Result<(), AllocError
 {
     match selector {
         Selector::Ping => write_counted(out, " ping", &[]),
-        Selector::Counter(energy) => write_counted(out, " counter", &[energy.number() as u32]),
-        Selector::Text(field) => write_counted(out, " string", &[field.number() as u32]),
+        Selector::Counter(energy) => write_counted(out, " counter", &[u32::from(u8::from(energy))]),
+        Selector::Text(field) => write_counted(out, " string", &[u32::from(u8::from(field))]),
         Selector::Parameter(parameter) => write_counted(
             out,
             " parameter",
-            &[parameter.number() as u32],
+            &[u32::from(u8::from(parameter))],
         ),
     }
 }
@@ -45,7 +45,7 @@ fn write_question(out: &mut String, question: Question) -> Result<(), AllocError
             write_counted(
                 out,
                 " relay",
-                &[relay.number() as u32, position.number() as u32],
+                &[u32::from(u8::from(relay)), u32::from(u8::from(position))],
             )
         }
     }
@@ -55,12 +55,12 @@ fn write_question(out: &mut String, question: Question) -> Result<(), AllocError
 fn write_counters(out: &mut String, energy: u8, counters: &Counters) -> Result<(), AllocError>
     ensures { OnOk result (string_bytes out.new ≡ string_bytes out.old ++ counted (codes " counter") (energy ∷ counters_numbers counters.now)) }
 {
-    let config = counters.config as u32;
-    let voltage = counters.voltage_ratio as u32;
-    let current = counters.current_ratio as u32;
+    let config = u32::from(counters.config);
+    let voltage = u32::from(counters.voltage_ratio);
+    let current = u32::from(counters.current_ratio);
     let [t1, t2, t3, t4] = counters.tariffs;
     let numbers = [
-        energy as u32,
+        u32::from(energy),
         config,
         voltage,
         current,
@@ -81,15 +81,15 @@ fn write_answer(out: &mut String, answer: &Answer<'_>) -> Result<(), AllocError>
         Answer::Ping { version, info } => write_counted(
             out,
             " ping",
-            &[*version as u32, *info as u32],
+            &[u32::from(*version), u32::from(*info)],
         ),
-        Answer::Counter { energy, counters } => write_counters(out, energy.number(), counters),
-        Answer::Text { field, text } => write_string(out, field.number(), text),
+        Answer::Counter { energy, counters } => write_counters(out, u8::from(*energy), counters),
+        Answer::Text { field, text } => write_string(out, u8::from(*field), text),
         Answer::Parameter { parameter, value } => {
             write_counted(
                 out,
                 " parameter",
-                &[parameter.number() as u32, *value as u32],
+                &[u32::from(u8::from(*parameter)), u32::from(*value)],
             )
         }
         Answer::Relay => write_counted(out, " relay", &[]),
@@ -100,7 +100,7 @@ fn write_answer(out: &mut String, answer: &Answer<'_>) -> Result<(), AllocError>
 fn write_string(out: &mut String, field: u8, text: &[u8]) -> Result<(), AllocError>
     ensures { OnOk result (string_bytes out.new ≡ string_bytes out.old ++ (counted (codes " string") (field ∷ []) ++ 32 ∷ text_word text.now)) }
 {
-    write_counted(out, " string", &[field as u32])?;
+    write_counted(out, " string", &[u32::from(field)])?;
     out.push_str(" ")?;
     write_text(out, text)?;
     Ok(())
@@ -116,7 +116,7 @@ fn write_asked(
     ensures { OnOk result (string_bytes out.new ≡ string_bytes out.old ++ (counted (codes "question") ends ++ (32 ∷ (solid_pairs password ++ question_text question)))) }
 {
     let [to, from] = ends;
-    write_counted(out, "question", &[to as u32, from as u32])?;
+    write_counted(out, "question", &[u32::from(to), u32::from(from)])?;
     out.push_str(" ")?;
     write_password(out, password)?;
     write_question(out, question)?;
@@ -137,7 +137,13 @@ fn write_answered(
     write_counted(
         out,
         "answer",
-        &[to as u32, from as u32, s1 as u32, s2 as u32, s3 as u32],
+        &[
+            u32::from(to),
+            u32::from(from),
+            u32::from(s1),
+            u32::from(s2),
+            u32::from(s3),
+        ],
     )?;
     write_answer(out, answer)?;
     Ok(())
@@ -155,13 +161,13 @@ fn write_complaint(
     let [to, from] = ends;
     let [s1, s2, s3, s4] = status;
     let numbers = [
-        to as u32,
-        from as u32,
-        command as u32,
-        s1 as u32,
-        s2 as u32,
-        s3 as u32,
-        s4 as u32,
+        u32::from(to),
+        u32::from(from),
+        u32::from(command),
+        u32::from(s1),
+        u32::from(s2),
+        u32::from(s3),
+        u32::from(s4),
     ];
     write_counted(out, "complaint", &numbers)
 }
@@ -187,7 +193,7 @@ fn write_look(out: &mut String, look: &Look<'_>) -> Result<(), AllocError>
             source,
             command,
             status,
-        } => { write_complaint(out, [*destination, *source], command.number(), *status) }
+        } => { write_complaint(out, [*destination, *source], u8::from(*command), *status) }
     }
 }
 
@@ -197,6 +203,6 @@ pub(crate) fn write_looked(out: &mut String, body: &[u8]) -> Result<(), AllocErr
 {
     match Look::read(body) {
         Ok(look) => write_look(out, &look),
-        Err(refusal) => write_refusal(out, refusal.number()),
+        Err(refusal) => write_refusal(out, u8::from(refusal)),
     }
 }

@@ -6,7 +6,7 @@ use Rattle.numbering.specs.declared.parameter.Parameter.TheVariants.{AnswerDelay
 use Rattle.asking.specs.declared.selector.Selector.{Selector}
 use Rattle.asking.specs.declared.selector.Selector.TheVariants.{Ping, Counter, Text, Parameter}
 use Rattle.numbering.specs.Exactly.{Exactly, Iff}
-use Rattle.asking.specs.Selectors.{slot_of, SlotsApart}
+use Rattle.asking.specs.Selectors.{slot_of}
 
 -- the selectors by their slots
 abbrev order : List Selector
@@ -41,10 +41,6 @@ all_counted = search rules
 bounded : (x : Selector) → (1 ≤ slot_of x) × (slot_of x ≤ 28)
 bounded x = search rules
 
-slots_all : (n : ℕ) (r : Option Selector) → Exactly (λ x. slot_of x ≡ n) r → Iff (is_some r ≡ true) ((1 ≤ n) × (n ≤ 28))
+pub slots_all : (n : ℕ) (r : Option Selector) → Exactly (λ x. slot_of x ≡ n) r → Iff (is_some r ≡ true) ((1 ≤ n) × (n ≤ 28))
 slots_all n (Some x) h = (λ _. let b = bounded x in (omega (arith, b.0, h), omega (arith, b.1, h)), λ _. refl)
 slots_all n None h = (λ e. search rules, λ b. let s = counted order 1 n all_counted b.0 (omega (arith, b.1)) in absurd (h s.0 s.1))
-
--- what is found at a slot, with the laws of the slots
-pub slot_laws : (n : ℕ) (r : Option Selector) → Exactly (λ x. slot_of x ≡ n) r → record { finds : Exactly (λ x. slot_of x ≡ n) r; all : Iff (is_some r ≡ true) ((1 ≤ n) × (n ≤ 28)); apart : SlotsApart }
-slot_laws n r h = record { finds = h; all = slots_all n r h; apart = slots_apart }

@@ -9,6 +9,6 @@ pub fn put(bytes: &[u8], out: &mut [u8]) -> Option<usize>
     if out.len() < bytes.len() {
         return None;
     }
-    out[0..bytes.len()].copy_from_slice(bytes);
+    out[..bytes.len()].copy_from_slice(bytes);
     Some(bytes.len())
 }

@@ -10,15 +10,14 @@ use crate::selector::Selector;
 use numbering::{Command, Position, Relay};
 
 /// Each value is a lawful question: a relay is one of nine, so no number stands for none.
-#[derive(Clone, Copy)]
+#[derive(Clone, Copy, Debug, PartialEq, Eq, Hash)]
 pub enum Question {
     Read(Selector),
     Switch { relay: Relay, position: Position },
 }
 
 fn read_ping(bytes: &[u8]) -> Option<Question>
-    ensures reads { Exactly (Asks 0x01 bytes.now) result }
-    ensures back { (x : Question) → Asks 0x01 bytes.now x → result ≡ Some x }
+    ensures { Exactly (Asks 0x01 bytes.now) result }
 {
     match bytes {
         [] => Some(Question::Read(Selector::Ping)),
@@ -28,9 +27,8 @@ fn read_ping(bytes: &[u8]) -> Option<Question>
 
 /// A reading question that is not a ping.
 fn read_selector(command: u8, bytes: &[u8]) -> Option<Question>
-    requires { ((command ≢ 0x01)) × ((command ≢ 0x3A)) }
-    ensures reads { Exactly (Asks command bytes.now) result }
-    ensures back { (x : Question) → Asks command bytes.now x → result ≡ Some x }
+    requires { (command ≢ 0x01) × (command ≢ 0x3A) }
+    ensures { Exactly (Asks command bytes.now) result }
 {
     match bytes {
         [selector] => Some(Question::Read(Selector::named(command, *selector)?)),
@@ -39,14 +37,13 @@ fn read_selector(command: u8, bytes: &[u8]) -> Option<Question>
 }
 
 fn read_switch(bytes: &[u8]) -> Option<Question>
-    ensures reads { Exactly (Asks 0x3A bytes.now) result }
-    ensures back { (x : Question) → Asks 0x3A bytes.now x → result ≡ Some x }
+    ensures { Exactly (Asks 0x3A bytes.now) result }
 {
     let [relay, position] = bytes else {
         return None;
     };
-    let relay = Relay::numbered(*relay)?;
-    let position = Position::numbered(*position)?;
+    let relay = Relay::try_from(*relay).ok()?;
+    let position = Position::try_from(*position).ok()?;
     Some(Question::Switch { relay, position })
 }
 
@@ -56,7 +53,7 @@ impl Question {
         ensures reads { Exactly (Asks command bytes.now) result }
         ensures back { (x : Question) → Asks command bytes.now x → result ≡ Some x }
     {
-        match Command::numbered(command)? {
+        match Command::try_from(command).ok()? {
             Command::Ping => read_ping(bytes),
             Command::Relay => read_switch(bytes),
             _ => read_selector(command, bytes),
@@ -80,7 +77,10 @@ impl Question {
         match self {
             Question::Read(Selector::Ping) => put(&[], out),
             Question::Read(selector) => put(&[selector.byte()], out),
-            Question::Switch { relay, position } => put(&[relay.number(), position.number()], out),
+            Question::Switch { relay, position } => put(
+                &[u8::from(relay), u8::from(position)],
+                out,
+            ),
         }
     }
 }

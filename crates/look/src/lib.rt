@@ -4,6 +4,7 @@
 ghost use Rattle.std.specs.Prelude.{◌≡◌};
 ghost use Rattle.wire.specs.Fields.{content};
 ghost use Rattle.numbering.specs.Exactly.{Exactly};
+ghost use Rattle.look.specs.declared.Refusal.TheVariants.{Faulty};
 ghost use Rattle.look.specs.Looks.{Shows, Looked, Placed, refusal_number};
 
 use asking::question::Question;
@@ -14,7 +15,7 @@ use wire::fault::Fault;
 use wire::receiver::LONGEST;
 
 /// What a body says. A complaint is an answer whose fourth status is not 0; its data are not read.
-#[derive(Clone, Copy)]
+#[derive(Clone, Copy, Debug, PartialEq, Eq)]
 pub enum Look<'a> {
     Question {
         destination: u16,
@@ -37,21 +38,29 @@ pub enum Look<'a> {
 }
 
 /// Why bytes are not read: they are no good body, or the command is unknown or the data are not lawful for it.
-#[derive(Clone, Copy)]
+#[derive(Clone, Copy, Debug, PartialEq, Eq)]
 pub enum Refusal {
     Faulty(Fault),
     Unlawful,
 }
 
-impl Refusal {
-    /// The refusal's number; a fault has its own.
-    pub fn number(self) -> u8
-        ensures { result ≡ refusal_number self }
-    {
-        match self {
-            Refusal::Faulty(fault) => fault as u8,
+/// The refusal's number; a fault has its own.
+impl From<Refusal> for u8 {
+    ghost from_gives = { λ refusal n. n ≡ refusal_number refusal };
+
+    fn from(refusal: Refusal) -> u8 {
+        match refusal {
+            Refusal::Faulty(fault) => u8::from(fault),
             Refusal::Unlawful => 39,
         }
+    }
+}
+
+impl From<Fault> for Refusal {
+    ghost from_gives = { λ fault refusal. refusal ≡ Faulty fault };
+
+    fn from(value: Fault) -> Refusal {
+        Refusal::Faulty(value)
     }
 }
 
@@ -72,7 +81,7 @@ fn seen(fields: Fields<'_>) -> Option<Look<'_>>
             })
         }
         Direction::Answer => {
-            let command = Command::numbered(fields.command)?;
+            let command = Command::try_from(fields.command).ok()?;
             if fourth != 0 {
                 return Some(Look::Complaint {
                     destination,
@@ -101,9 +110,6 @@ impl<'a> Look<'a> {
         if body.len() > LONGEST {
             return Err(Refusal::Faulty(Fault::Overlong));
         }
-        match Fields::read(body) {
-            Ok(fields) => seen(fields).ok_or(Refusal::Unlawful),
-            Err(fault) => Err(Refusal::Faulty(fault)),
-        }
+        seen(Fields::read(body)?).ok_or(Refusal::Unlawful)
     }
 }

@@ -1,5 +1,6 @@
 -- The number that stands in a frame for each command, counter, string, parameter, relay and position.
-use Rattle.std.specs.Prelude.{ℕ}
+use Rattle.std.specs.Prelude.{◌≡◌, ℕ, Ok, Err, Result}
+use Rattle.numbering.specs.declared.number.UnknownNumber.{UnknownNumber}
 use Rattle.numbering.specs.declared.command.Command.{Command}
 use Rattle.numbering.specs.declared.command.Command.TheVariants as command
 use Rattle.numbering.specs.declared.energy.Energy.{Energy}
@@ -67,3 +68,8 @@ relay_number R8 = 8
 abbrev pub position_number : Position → ℕ
 position_number Close = 0
 position_number Open = 1
+
+-- `Ok x` only for an x with this number, and `Err` only with a number that none has
+abbrev pub Decodes : {X : Type 0} → (X → ℕ) → ℕ → Result X UnknownNumber → Type 0
+Decodes number n (Ok x) = number x ≡ n
+Decodes number n (Err e) = (e.0 ≡ n) × ((x : _) → number x ≡ n → ⊥)

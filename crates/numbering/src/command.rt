@@ -1,11 +1,12 @@
 //! What a frame is about, and the number that stands for it.
 
 ghost use Rattle.std.specs.Prelude.{◌≡◌};
-ghost use Rattle.numbering.specs.Exactly.{Exactly};
-ghost use Rattle.numbering.specs.Numbered.{command_number};
+ghost use Rattle.numbering.specs.Numbered.{Decodes, command_number};
+
+use crate::number::UnknownNumber;
 
 /// What a frame is about.
-#[derive(Clone, Copy)]
+#[derive(Clone, Copy, Debug, PartialEq, Eq, Hash)]
 pub enum Command {
     Ping = 0x01,
     Counters = 0x05,
@@ -14,25 +15,29 @@ pub enum Command {
     Relay = 0x3A,
 }
 
-impl Command {
-    /// The command of this number.
-    pub fn numbered(number: u8) -> Option<Command>
-        ensures { Exactly (λ x. command_number x ≡ number) result }
-    {
+/// The command of this number.
+impl TryFrom<u8> for Command {
+    type Error = UnknownNumber;
+
+    ghost try_from_gives = { Decodes command_number };
+
+    fn try_from(number: u8) -> Result<Self, UnknownNumber> {
         match number {
-            0x01 => Some(Command::Ping),
-            0x05 => Some(Command::Counters),
-            0x07 => Some(Command::Strings),
-            0x37 => Some(Command::Parameters),
-            0x3A => Some(Command::Relay),
-            _ => None,
+            0x01 => Ok(Command::Ping),
+            0x05 => Ok(Command::Counters),
+            0x07 => Ok(Command::Strings),
+            0x37 => Ok(Command::Parameters),
+            0x3A => Ok(Command::Relay),
+            _ => Err(UnknownNumber(number)),
         }
     }
+}
 
-    /// The number that stands for it in a frame.
-    pub fn number(self) -> u8
-        ensures { result ≡ command_number self }
-    {
-        self as u8
+/// The number that stands for it in a frame.
+impl From<Command> for u8 {
+    ghost from_gives = { λ command number. number ≡ command_number command };
+
+    fn from(command: Command) -> u8 {
+        command as u8
     }
 }

@@ -3,6 +3,7 @@
 
 mod command;
 mod energy;
+mod number;
 mod parameter;
 mod position;
 mod relay;
@@ -10,6 +11,7 @@ mod text_field;
 
 pub use command::Command;
 pub use energy::Energy;
+pub use number::UnknownNumber;
 pub use parameter::Parameter;
 pub use position::Position;
 pub use relay::Relay;

@@ -1,11 +1,12 @@
 //! The subscriber strings, and the number that stands for each.
 
 ghost use Rattle.std.specs.Prelude.{◌≡◌};
-ghost use Rattle.numbering.specs.Exactly.{Exactly};
-ghost use Rattle.numbering.specs.Numbered.{field_number};
+ghost use Rattle.numbering.specs.Numbered.{Decodes, field_number};
+
+use crate::number::UnknownNumber;
 
 /// A subscriber string.
-#[derive(Clone, Copy)]
+#[derive(Clone, Copy, Debug, PartialEq, Eq, Hash)]
 pub enum TextField {
     Account = 1,
     Settlement = 2,
@@ -20,31 +21,35 @@ pub enum TextField {
     Input4 = 0x13,
 }
 
-impl TextField {
-    /// The string of this number.
-    pub fn numbered(number: u8) -> Option<TextField>
-        ensures { Exactly (λ x. field_number x ≡ number) result }
-    {
+/// The string of this number.
+impl TryFrom<u8> for TextField {
+    type Error = UnknownNumber;
+
+    ghost try_from_gives = { Decodes field_number };
+
+    fn try_from(number: u8) -> Result<Self, UnknownNumber> {
         match number {
-            1 => Some(TextField::Account),
-            2 => Some(TextField::Settlement),
-            3 => Some(TextField::Street),
-            4 => Some(TextField::House),
-            5 => Some(TextField::Flat),
-            6 => Some(TextField::Subscriber),
-            7 => Some(TextField::BillingId),
-            0x10 => Some(TextField::Input1),
-            0x11 => Some(TextField::Input2),
-            0x12 => Some(TextField::Input3),
-            0x13 => Some(TextField::Input4),
-            _ => None,
+            1 => Ok(TextField::Account),
+            2 => Ok(TextField::Settlement),
+            3 => Ok(TextField::Street),
+            4 => Ok(TextField::House),
+            5 => Ok(TextField::Flat),
+            6 => Ok(TextField::Subscriber),
+            7 => Ok(TextField::BillingId),
+            0x10 => Ok(TextField::Input1),
+            0x11 => Ok(TextField::Input2),
+            0x12 => Ok(TextField::Input3),
+            0x13 => Ok(TextField::Input4),
+            _ => Err(UnknownNumber(number)),
         }
     }
+}
 
-    /// The number that stands for it in a frame.
-    pub fn number(self) -> u8
-        ensures { result ≡ field_number self }
-    {
-        self as u8
+/// The number that stands for it in a frame.
+impl From<TextField> for u8 {
+    ghost from_gives = { λ field number. number ≡ field_number field };
+
+    fn from(field: TextField) -> u8 {
+        field as u8
     }
 }

@@ -1,4 +1,3 @@
-pub mod Meaning
 pub mod Numbering
 pub mod Recording
 pub mod Rejoining

@@ -1,6 +1,5 @@
 -- Numbers and their bytes.
-use Rattle.std.proofs.Common.{◌≡◌, ℕ, zero, suc, ◌+◌, ◌*◌, ◌/◌, ◌%◌, ◌^◌, ◌<◌, List, [], ◌∷◌, length, get_or, take, drop, refl, ap, ◌∙◌, pow-suc, arith}
-use Rattle.std.proofs.lemmas.List.{drop_more}
+use Rattle.std.proofs.Common.{◌≡◌, ℕ, zero, suc, ◌+◌, ◌*◌, ◌/◌, ◌%◌, ◌^◌, ◌<◌, List, [], ◌∷◌, length, refl, ap, pow-suc, arith}
 use Rattle.protocol.specs.Bytes.{low_first, number_of, AllBelow}
 
 pub length_low_first : (k n : ℕ) → length (low_first k n) ≡ k
@@ -23,7 +22,3 @@ number_low_first (suc k) n h =
     let p : n < 256 ^ k * 256 = rw pow-suc at h in
     let i = number_low_first k (n / 256) (omega arith) in
     rw i (omega arith)
-
--- the bytes of a part, one by one
-pub part_more : (k i j : ℕ) (xs : List ℕ) → i + 1 ≡ j → i < length xs → take (suc k) (drop i xs) ≡ get_or xs i 0 ∷ take k (drop j xs)
-part_more k i j xs e h = ap (take (suc k)) (drop_more xs i 0 h) ∙ ap (λ m. get_or xs i 0 ∷ take k (drop m xs)) e

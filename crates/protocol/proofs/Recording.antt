@@ -1,5 +1,6 @@
 -- Records and the data that say them.
-use Rattle.std.proofs.Common.{◌≡◌, ℕ, ◌+◌, ◌^◌, ◌<◌, List, [], ◌∷◌, length, get_or, take, drop, Some, None, Option, sym, refl, ap, ◌∙◌, subst, arith}
+use Rattle.std.proofs.Common.{◌≡◌, ℕ, ◌+◌, ◌^◌, ◌<◌, List, [], ◌∷◌, length, get_or, take, drop, Bool, true, false, Some, None, Option, sym, refl, ap, ◌∙◌, subst, arith}
+use Rattle.std.specs.Bool.{then_some}
 use Rattle.std.specs.List.{flat_map}
 use Rattle.numbering.specs.declared.command.Command.{Command}
 use Rattle.protocol.specs.declared.counters.Counters.{Counters}
@@ -9,13 +10,13 @@ use Rattle.protocol.specs.declared.record.Record.{Record}
 use Rattle.protocol.specs.declared.record.Record.TheVariants.{Ping, Counter, Text, Parameter}
 use Rattle.protocol.specs.declared.answer.Answer.{Answer}
 use Rattle.protocol.specs.declared.answer.Answer.TheVariants as answer
-use Rattle.protocol.specs.Answers.{Says, Means, Kept, Read, RecordsApart}
+use Rattle.protocol.specs.Answers.{Says, Means, Kept, Read}
 use Rattle.protocol.specs.Bytes.{low_first, number_of, AllBelow}
 use Rattle.protocol.specs.Counting.{counters_bytes, Fit}
 use Rattle.numbering.specs.Exactly.{Exactly}
 use Rattle.numbering.specs.Numbered.{command_number}
 use Rattle.protocol.specs.Records.{selector_of, data_of, Lawful}
-use Rattle.asking.specs.Selectors.{command_of, slot_of, rank}
+use Rattle.asking.specs.Selectors.{command_of, rank}
 use Rattle.protocol.proofs.Numbering.{number_low_first}
 use Rattle.asking.proofs.Slotting.{slots_apart}
 
@@ -88,7 +89,7 @@ counters_apart x y h k e = sym (counters_back x h) ∙ ap counters_of e ∙ coun
 number_apart : (k m n : ℕ) → m < 256 ^ k → n < 256 ^ k → low_first k m ≡ low_first k n → m ≡ n
 number_apart k m n h l e = sym (number_low_first k m h) ∙ ap number_of e ∙ number_low_first k n l
 
-records_apart : (a : ℕ) (x y : Record) → Lawful x → Lawful y → command_of (selector_of x) ≡ command_of (selector_of y) → data_of a x ≡ data_of a y → x ≡ y
+pub records_apart : (a : ℕ) (x y : Record) → Lawful x → Lawful y → command_of (selector_of x) ≡ command_of (selector_of y) → data_of a x ≡ data_of a y → x ≡ y
 records_apart a (Ping v i) (Ping w j) h k c e = cc
 records_apart a (Ping v i) (Counter g m) h k c e = absurd (omega (arith, ap command_number c))
 records_apart a (Ping v i) (Text g m) h k c e = absurd (omega (arith, ap command_number c))
@@ -115,7 +116,7 @@ records_apart a (Parameter f n) (Parameter g m) h k c e =
     cc
 
 -- what is read is what was written
-read_back : (s : Selector) (a : ℕ) (bs : List ℕ) (r : Option Record) → Exactly (Read s a bs) r → (x : Record) → Read s a bs x → r ≡ Some x
+pub read_back : (s : Selector) (a : ℕ) (bs : List ℕ) (r : Option Record) → Exactly (Read s a bs) r → (x : Record) → Read s a bs x → r ≡ Some x
 read_back s a bs None e x h = absurd (e x h)
 read_back s a bs (Some y) e x h =
     ap Some (records_apart a y x e.lawful h.lawful (ap command_of (e.selector ∙ sym h.selector)) (e.bytes ∙ sym h.bytes))
@@ -131,17 +132,12 @@ module _ (s : Selector) (c : Command) (a : ℕ) (bs : List ℕ) where
   pub read_unfiled : c ≡ command_of s → (y : Answer) → Means c a bs y → ((x : Record) → Kept y x → ⊥) → (x : Record) → Read s a bs x → ⊥
   read_unfiled e y m none x h = means_kept s a bs y (subst (λ k. Means k a bs y) e m) none
 
-  pub read_some : (y : Answer) → Means c a bs y → (x : Record) → Kept y x → slot_of (selector_of x) ≡ slot_of s → Read s a bs x
-  read_some y m x k e =
+  -- b tells whether that record is the selector's
+  pub read_filed : c ≡ command_of s → (y : Answer) → Means c a bs y → (x : Record) → Kept y x → (b : Bool) → (b ≡ true → selector_of x ≡ s) → (b ≡ false → selector_of x ≡ s → ⊥) → Exactly (Read s a bs) (then_some b x)
+  read_filed e y m x k true own other =
       let h = kept_says c a bs y x m k in
-      record { lawful = h.lawful; selector = slots_apart (selector_of x) s e; bytes = h.bytes }
-
-  pub read_other : c ≡ command_of s → (y : Answer) → Means c a bs y → (x : Record) → Kept y x → (slot_of (selector_of x) ≡ slot_of s → ⊥) → (z : Record) → Read s a bs z → ⊥
-  read_other e y m x k ne z h =
+      record { lawful = h.lawful; selector = own refl; bytes = h.bytes }
+  read_filed e y m x k false own other = λ z h.
       let p = kept_says c a bs y x m k in
       let q = read_says e z h in
-      ne (ap (λ r. slot_of (selector_of r)) (records_apart a x z p.lawful q.lawful (p.command ∙ sym q.command) (p.bytes ∙ sym q.bytes)) ∙ ap slot_of h.selector)
-
--- what is read, with the laws of records
-pub read_laws : (s : Selector) (a : ℕ) (bs : List ℕ) (r : Option Record) → Exactly (Read s a bs) r → record { reads : Exactly (Read s a bs) r; back : (x : Record) → Read s a bs x → r ≡ Some x; apart : RecordsApart }
-read_laws s a bs r h = record { reads = h; back = read_back s a bs r h; apart = records_apart }
+      other refl (ap selector_of (records_apart a x z p.lawful q.lawful (p.command ∙ sym q.command) (p.bytes ∙ sym q.bytes)) ∙ h.selector)

@@ -1,9 +1,10 @@
 -- Text and its zeros.
-use Rattle.std.proofs.Common.{◌≡◌, ℕ, suc, ◌+◌, ◌-◌, ◌<◌, ◌≤◌, true, List, [], ◌∷◌, ◌++◌, length, get_or, take, drop, replicate, sym, refl, ap, ◌∙◌, subst, ⊎_elim, le_refl, lt_of_lt_of_le, eq-or-lt_of_le, arith}
+use Rattle.std.proofs.Common.{◌≡◌, ℕ, suc, ◌+◌, ◌-◌, ◌<◌, ◌≤◌, Bool, true, false, MatchBool, Bor, List, [], ◌∷◌, ◌++◌, length, get_or, take, drop, replicate, sym, refl, ap, ◌∙◌, subst, ⊎_elim, le_refl, lt_of_lt_of_le, eq-or-lt_of_le, arith}
 use Rattle.std.proofs.lemmas.List.{length-append, length-replicate, length-take-le, length-drop, take-append-drop, get_or_append_left, get_or-append_right, get_or-replicate, get_or-drop, get_or-take}
 use Rattle.std.proofs.lemmas.Bool.{cases_lt}
 use Rattle.std.proofs.lemmas.Bool.Decides.{nat_tests}
-use Rattle.protocol.specs.Text.{character, Character, Characters, padded, IsText}
+use Rattle.std.specs.Bool.{then_some}
+use Rattle.protocol.specs.Text.{character, Character, Characters, padded, IsText, Shown}
 
 -- what follows from it is all that the other laws know of characters
 zero_no_character : Character 0 → ⊥
@@ -55,3 +56,8 @@ text_refused bs n k l h before stops i ne (cs, c, e) =
     (λ w. zero_no_character (subst Character (rest (length cs) (le_refl (length cs)) (lt_of_lt_of_le w h)) (before (length cs) w)))
     (eq-or-lt_of_le q))
     (cases_lt n (length cs))
+
+-- what stands in front, if a test b tells that all behind it is zero
+pub text_told : (bs : List ℕ) (n : ℕ) (b : Bool) (front : Bor (List ℕ)) → length bs ≡ 30 → n ≤ 30 → ((k : ℕ) → k < n → Character (get_or bs k 0)) → (n < length bs → Character (get_or bs n 0) → ⊥) → front.now ≡ take n bs → MatchBool b ((k : ℕ) → k < length (drop n bs) → get_or (drop n bs) k 0 ≡ 0) ((k : ℕ) × (k < length (drop n bs)) × (get_or (drop n bs) k 0 ≡ 0 → ⊥)) → Shown bs (then_some b front)
+text_told bs n true front l h before stops e z = rw e (text_shown bs n l h before z)
+text_told bs n false front l h before stops e z = text_refused bs n z.0 l h before stops z.1 z.2

@@ -4,13 +4,12 @@ ghost use Rattle.std.specs.Prelude.{◌≡◌};
 ghost use Rattle.protocol.specs.Answers.{Means};
 ghost use Rattle.numbering.specs.Exactly.{Exactly};
 
-use crate::bytes::half_at;
 use crate::counters::Counters;
 use crate::text::shown;
 use numbering::{Command, Energy, Parameter, TextField};
 
 /// A text is a part of the data, without its zeros.
-#[derive(Clone, Copy)]
+#[derive(Clone, Copy, Debug, PartialEq, Eq, Hash)]
 pub enum Answer<'a> {
     Ping { version: u8, info: u8 },
     Counter { energy: Energy, counters: Counters },
@@ -22,22 +21,19 @@ pub enum Answer<'a> {
 fn read_ping(source: u16, bytes: &[u8]) -> Option<Answer<'_>>
     ensures { Exactly (Means Command.Ping source bytes.now) result }
 {
-    if bytes.len() != 4 || half_at(bytes, 2) != source {
-        return None;
+    match *bytes {
+        [version, info, low, high] if u16::from_le_bytes([low, high]) == source => {
+            Some(Answer::Ping { version, info })
+        }
+        _ => None,
     }
-    Some(Answer::Ping {
-        version: bytes[0],
-        info: bytes[1],
-    })
 }
 
 fn read_counter(source: u16, bytes: &[u8]) -> Option<Answer<'_>>
     ensures { Exactly (Means Command.Counters source bytes.now) result }
 {
-    let [number, rest @ ..] = bytes else {
-        return None;
-    };
-    let energy = Energy::numbered(*number)?;
+    let (number, rest) = bytes.split_first()?;
+    let energy = Energy::try_from(*number).ok()?;
     let counters = Counters::read(rest)?;
     Some(Answer::Counter { energy, counters })
 }
@@ -45,10 +41,8 @@ fn read_counter(source: u16, bytes: &[u8]) -> Option<Answer<'_>>
 fn read_text(source: u16, bytes: &[u8]) -> Option<Answer<'_>>
     ensures { Exactly (Means Command.Strings source bytes.now) result }
 {
-    let [number, rest @ ..] = bytes else {
-        return None;
-    };
-    let field = TextField::numbered(*number)?;
+    let (number, rest) = bytes.split_first()?;
+    let field = TextField::try_from(*number).ok()?;
     let text = shown(rest)?;
     Some(Answer::Text { field, text })
 }
@@ -56,25 +50,20 @@ fn read_text(source: u16, bytes: &[u8]) -> Option<Answer<'_>>
 fn read_parameter(source: u16, bytes: &[u8]) -> Option<Answer<'_>>
     ensures { Exactly (Means Command.Parameters source bytes.now) result }
 {
-    if bytes.len() != 3 {
+    let &[number, low, high] = bytes else {
         return None;
-    }
-    let parameter = Parameter::numbered(bytes[0])?;
-    let value = half_at(bytes, 1);
-    if !parameter.allows(value) {
-        return None;
-    }
-    Some(Answer::Parameter { parameter, value })
+    };
+    let parameter = Parameter::try_from(number).ok()?;
+    let value = u16::from_le_bytes([low, high]);
+    parameter
+        .allows(value)
+        .then_some(Answer::Parameter { parameter, value })
 }
 
 fn read_relay(source: u16, bytes: &[u8]) -> Option<Answer<'_>>
     ensures { Exactly (Means Command.Relay source bytes.now) result }
 {
-    if bytes.is_empty() {
-        Some(Answer::Relay)
-    } else {
-        None
-    }
+    bytes.is_empty().then_some(Answer::Relay)
 }
 
 impl Answer<'_> {

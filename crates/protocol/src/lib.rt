@@ -3,7 +3,6 @@
 #![tactic(auto)]
 
 pub mod answer;
-mod bytes;
 pub mod counters;
 pub mod record;
 pub mod text;

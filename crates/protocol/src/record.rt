@@ -15,7 +15,7 @@ use asking::selector::Selector;
 use numbering::{Energy, Parameter, TextField};
 
 /// A text holds its characters and then zeros.
-#[derive(Clone, Copy)]
+#[derive(Clone, Copy, Debug, PartialEq, Eq, Hash)]
 pub enum Record {
     Ping { version: u8, info: u8 },
     Counter { energy: Energy, counters: Counters },
@@ -26,8 +26,8 @@ pub enum Record {
 fn text_data(field: TextField, text: &[u8; 30]) -> [u8; 31]
     ensures { result ≡ field_number field ∷ text.now }
 {
-    let mut data = [field.number(); 31];
-    data[1..31].copy_from_slice(text);
+    let mut data = [u8::from(field); 31];
+    data[1..].copy_from_slice(text);
     data
 }
 
@@ -46,23 +46,18 @@ fn filed(answer: Answer<'_>) -> Option<Record>
     }
 }
 
-/// Goes by the answer that the data mean, and by what is filed of it.
+/// Goes by the answer that the data mean, and by what is filed of it; what `read` says besides follows from this alone.
 fn read_record(selector: Selector, source: u16, bytes: &[u8]) -> Option<Record>
-    ensures reads { Exactly (Read selector source bytes.now) result }
-    ensures back { (x : Record) → Read selector source bytes.now x → result ≡ Some x }
-    ensures apart { RecordsApart }
+    ensures { Exactly (Read selector source bytes.now) result }
 {
     let answer = Answer::read(selector.command(), source, bytes)?;
     let record = filed(answer)?;
-    if record.selector().slot() == selector.slot() {
-        Some(record)
-    } else {
-        None
-    }
+    (record.selector() == selector).then_some(record)
 }
 
 impl Record {
     /// What these data say in the answer to this selector from a meter at the address `source`.
+    #[tactic(auto, using(crate::proofs::Recording::read_back, crate::proofs::Recording::records_apart))]
     pub fn read(selector: Selector, source: u16, bytes: &[u8]) -> Option<Record>
         ensures reads { Exactly (Read selector source bytes.now) result }
         ensures back { (x : Record) → Read selector source bytes.now x → result ≡ Some x }
@@ -96,7 +91,7 @@ impl Record {
             Record::Text { field, text } => put(&text_data(*field, text), out),
             Record::Parameter { parameter, value } => {
                 let [low, high] = value.to_le_bytes();
-                put(&[parameter.number(), low, high], out)
+                put(&[u8::from(*parameter), low, high], out)
             }
         }
     }

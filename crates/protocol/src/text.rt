@@ -18,24 +18,16 @@ fn count(text: &[u8]) -> usize
     ensures before { (k : ℕ) → k < result → Character (slice_index text.now k) }
     ensures stops { result < length text.now → Character (slice_index text.now result) → ⊥ }
 {
-    for (i, byte) in text.iter().enumerate() {
-        if !is_character(*byte) {
-            return i;
-        }
-    }
-    text.len()
+    text.iter()
+        .position(|&byte| !is_character(byte))
+        .unwrap_or(text.len())
 }
 
 /// Whether all bytes are zero.
 fn blank(bytes: &[u8]) -> bool
     ensures { MatchBool result ((k : ℕ) → k < length bytes.now → slice_index bytes.now k ≡ 0) ((k : ℕ) × (k < length bytes.now) × (slice_index bytes.now k ≢ 0)) }
 {
-    for byte in bytes {
-        if *byte != 0 {
-            return false;
-        }
-    }
-    true
+    bytes.iter().all(|&byte| byte == 0)
 }
 
 /// The characters of a text with its zeros, or nothing where the bytes are no such text.
@@ -46,7 +38,7 @@ pub(crate) fn shown(bytes: &[u8]) -> Option<&[u8]>
         return None;
     }
     let (front, rest) = bytes.split_at(count(bytes));
-    if blank(rest) { Some(front) } else { None }
+    blank(rest).then_some(front)
 }
 
 /// The characters with the zeros behind them, if there is a place for each.
@@ -57,6 +49,6 @@ pub(crate) fn filled(text: &[u8]) -> Option<[u8; 30]>
         return None;
     }
     let mut places = [0; 30];
-    places[0..text.len()].copy_from_slice(text);
+    places[..text.len()].copy_from_slice(text);
     Some(places)
 }
