@@ -9,6 +9,7 @@ use std::cmp::Ordering;
 pub trait Key: Copy {
     ghost rank: { Self → ℕ };
 
+    // Not `Ord`: a law of a trait speaks of numbers of any size in a key's fields, among which a pair is not ordered by its rank.
     /// How the key stands to another. That it is equal is answered of equal keys alone, and one of the three is always answered.
     fn order(&self, other: &Self) -> Ordering
         ensures { MatchOrdering result (rank self.now < rank other.now) (self.now ≡ other.now) (rank other.now < rank self.now) };
