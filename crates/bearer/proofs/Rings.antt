@@ -3,9 +3,9 @@ use Rattle.std.proofs.Common.{◌≡◌, ℕ, zero, suc, ◌+◌, ◌%◌, ◌<�
 use Rattle.std.proofs.lemmas.List.{get_or-set_same, get_or-set_other}
 use Rattle.bearer.specs.Held.{held}
 
-pub length-held : (places : List ℕ) (h n : ℕ) → length (held places h n) ≡ n
-length-held places h zero = refl
-length-held places h (suc n) = let e = length-held places ((h + 1) % 128) n in omega arith
+pub length_held : (places : List ℕ) (h n : ℕ) → length (held places h n) ≡ n
+length_held places h zero = refl
+length_held places h (suc n) = let e = length_held places ((h + 1) % 128) n in omega arith
 
 -- a byte written at the first free place stands behind the others
 pushed : (places : List ℕ) (b h n t : ℕ) → length places ≡ 128 → h < 128 → n < 128 → t ≡ (h + n) % 128 → held (set places t b) h (suc n) ≡ held places h n ++ b ∷ []

@@ -40,6 +40,7 @@ impl Ring {
     }
 
     /// The number of free places.
+    #[tactic(auto, using(crate::proofs::Rings::length_held))]
     pub(crate) fn free(&self) -> usize
         ensures { result + length self.now ≡ 128 }
     {
@@ -47,6 +48,7 @@ impl Ring {
     }
 
     /// Removes the oldest byte.
+    #[tactic(auto, using(crate::proofs::Rings::length_held))]
     pub(crate) fn pop(&mut self) -> Option<u8>
         ensures oldest { MatchOption result ((self.old ≡ []) × (self.new ≡ [])) (λ b. self.old ≡ b ∷ self.new) }
         ensures few { length self.old ≤ 128 }
@@ -61,6 +63,7 @@ impl Ring {
     }
 
     /// Puts a byte behind the others.
+    #[tactic(auto, using(crate::proofs::Rings::length_held, crate::proofs::Rings::held_push))]
     fn push(&mut self, byte: u8)
         requires { length self.old < 128 }
         ensures { self.new ≡ self.old ++ byte ∷ [] }

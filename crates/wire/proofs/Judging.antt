@@ -1,21 +1,8 @@
 -- The judgement of a body, case by case and back.
-use Rattle.std.proofs.Common.{◌≡◌, ℕ, ◌+◌, ◌<◌, ◌≤◌, ◌⊎◌, List, length, get_or, inl, inr, arith}
+use Rattle.std.proofs.Common.{◌≡◌, ℕ, ◌+◌, ◌<◌, List, length, get_or, arith}
 use Rattle.std.proofs.lemmas.Bool.Decides.{nat_tests}
 use Rattle.wire.specs.Bodies.{verdict, stated, final, leading}
 use Rattle.wire.specs.Crc.{crc_of}
-
-pub verdict_short : (b : List ℕ) → length b < 12 → verdict b ≡ 33
-verdict_short b h = grind (arith, nat_tests)
-
-pub verdict_length : (b : List ℕ) → 12 ≤ length b → (length b ≡ 12 + stated b → ⊥) → verdict b ≡ 34
-verdict_length b h n = grind (arith, nat_tests)
-
-pub verdict_crc : (b : List ℕ) → length b ≡ 12 + stated b → (final b ≡ crc_of (leading b) → ⊥) → verdict b ≡ 35
-verdict_crc b h n = grind (arith, nat_tests)
-
-pub verdict_reserved : (b : List ℕ) → length b ≡ 12 + stated b → final b ≡ crc_of (leading b) → (64 ≤ get_or b 0 0) ⊎ (get_or b 1 0 ≡ 0 → ⊥) → verdict b ≡ 36
-verdict_reserved b h e (inl t) = grind (arith, nat_tests)
-verdict_reserved b h e (inr t) = grind (arith, nat_tests)
 
 pub record Good (b : List ℕ) : Type 0 where
   pub long : length b ≡ 12 + stated b

@@ -1,4 +1,3 @@
-pub mod Tables
 pub mod Judging
 pub mod Stuffing
 pub mod Writing

@@ -1,7 +1,7 @@
 -- A run over a stuffed body, and back: what a run that ends in a good frame was given.
-use Rattle.std.proofs.Common.{◌≡◌, ℕ, ◌+◌, ◌<◌, ◌≤◌, Bool, true, false, cond, eqb, ltb, List, [], ◌∷◌, ◌++◌, length, sym, refl, ap, ◌∙◌, arith}
+use Rattle.std.proofs.Common.{◌≡◌, ℕ, ◌+◌, ◌<◌, ◌≤◌, Bool, true, false, cond, eqb, ltb, List, [], ◌∷◌, ◌++◌, length, sym, refl, ap, ◌∙◌, inl, inr, arith}
 use Rattle.std.proofs.lemmas.List.{append_assoc, append-nil, length-append}
-use Rattle.std.proofs.lemmas.Bool.{eqb-true, eq-eqb, lt-ltb, cond-true}
+use Rattle.std.proofs.lemmas.Bool.{cases_Bool, eqb-true, eq-eqb, lt-ltb, cond-true}
 use Rattle.wire.specs.Bodies.{verdict}
 use Rattle.wire.specs.Receiving.{Receiving, Outcome, hunting, marked, inside, escaped, nothing, fault, good, joined, closed, then_on, run}
 use Rattle.wire.specs.Framing.{refused, made, stuffed_byte, stuffed, ended}
@@ -10,10 +10,6 @@ use Rattle.wire.specs.Framing.{refused, made, stuffed_byte, stuffed, ended}
 pub split : {A R : Type 0} (t : Bool) (x y : A) (P : A → Type 0) → P (cond t x y) → (t ≡ true → P x → R) → (t ≡ false → P y → R) → R
 split true x y P p f g = f refl p
 split false x y P p f g = g refl p
-
-cases : {R : Type 0} (t : Bool) → (t ≡ true → R) → (t ≡ false → R) → R
-cases true f g = f refl
-cases false f g = g refl
 
 pub never : {n : ℕ} {xs : List ℕ} → refused n ≡ made xs → ⊥
 never e = let z : ◌≡◌ {A = ℕ} 0 1 = cc in omega arith
@@ -25,11 +21,13 @@ joins acc bs b h = ap (λ s. then_on s bs (λ n. run n bs)) (cond-true (ltb (len
 -- a stuffed byte joins as itself
 byte_runs : (acc rest : List ℕ) (b : ℕ) → length acc < 43 → run (inside acc) (stuffed_byte b ++ rest) ≡ run (inside (acc ++ b ∷ [])) rest
 byte_runs acc rest b h =
-    cases (eqb b 0x55)
-    (λ t. rw t (joins acc rest 0x55 h ∙ ap (λ v. run (inside (acc ++ v ∷ [])) rest) (sym (eqb-true b 0x55 t))))
-    (λ f. cases (eqb b 0x73)
-    (λ t. rw (f, t) (joins acc rest 0x73 h ∙ ap (λ v. run (inside (acc ++ v ∷ [])) rest) (sym (eqb-true b 0x73 t))))
-    (λ g. rw (f, g) (rw (f, g) (joins acc rest b h))))
+    elim (cases_Bool (eqb b 0x55)) [
+      | inl t ↦ rw t (joins acc rest 0x55 h ∙ ap (λ v. run (inside (acc ++ v ∷ [])) rest) (sym (eqb-true b 0x55 t)))
+      | inr f ↦ elim (cases_Bool (eqb b 0x73)) [
+        | inl t ↦ rw (f, t) (joins acc rest 0x73 h ∙ ap (λ v. run (inside (acc ++ v ∷ [])) rest) (sym (eqb-true b 0x73 t)))
+        | inr g ↦ rw (f, g) (rw (f, g) (joins acc rest b h))
+      ]
+    ]
 
 pub stuffed_runs : (xs acc rest : List ℕ) → length acc + length xs ≤ 43 → run (inside acc) (stuffed xs ++ rest) ≡ run (inside (acc ++ xs)) rest
 unfolding stuffed

@@ -1,11 +1,14 @@
 -- The round trips between frames and what they say.
-use Rattle.std.proofs.Common.{◌≡◌, ℕ, zero, suc, ◌<◌, ◌≤◌, true, cond, eqb, ltb, List, [], ◌∷◌, ◌++◌, length, get_or, sym, ap, ◌∙◌, subst, arith}
+use Rattle.std.proofs.Common.{◌≡◌, ℕ, ◌<◌, ◌≤◌, true, cond, eqb, ltb, List, [], ◌∷◌, ◌++◌, length, get_or, sym, ap, ◌∙◌, subst, arith}
 use Rattle.std.proofs.lemmas.List.{take_rest}
 use Rattle.std.proofs.lemmas.Bool.{eqb-true, and_parts, le-ltb, cond-false}
+use Rattle.std.specs.List.{AllByRecursion}
+use Rattle.std.proofs.lemmas.List.Elements.{All-from_recursion, recursion_from_All, All-from_get_or}
 use Rattle.wire.specs.Bodies.{Content, body_of, behind}
 use Rattle.wire.specs.Receiving.{inside, run}
 use Rattle.wire.specs.Framing.{made, refused, stuffed, framed, frame_of, unpacked, ended, begins}
 use Rattle.wire.specs.Trips.{PacksAgain, UnpacksBack}
+use Rattle.wire.proofs.Judging.{good}
 use Rattle.wire.proofs.Running.{split, never, given, good_runs}
 use Rattle.wire.proofs.Saying.{said, said_length, own, own_length}
 
@@ -42,17 +45,7 @@ reframed room c h l n =
 
 -- each byte of the list is a byte
 abbrev Bytes : List ℕ → Type 0
-Bytes [] = Unit {0}
-Bytes (b ∷ bs) = (b < 256) × Bytes bs
-
-bytes : (xs : List ℕ) → ((i : ℕ) → get_or xs i 0 < 256) → Bytes xs
-bytes [] h = tt
-bytes (b ∷ bs) h = (h 0, bytes bs (λ i. h (suc i)))
-
-byte : (xs : List ℕ) (i : ℕ) → Bytes xs → get_or xs i 0 < 256
-byte [] i h = omega arith
-byte (b ∷ bs) zero h = h.0
-byte (b ∷ bs) (suc i) h = byte bs i h.1
+Bytes bs = AllByRecursion (λ b. b < 256) bs
 
 unstuffed : (xs rest : List ℕ) → Bytes (stuffed xs ++ rest) → Bytes xs
 unfolding stuffed
@@ -69,8 +62,10 @@ pub packs_again : (input : List ℕ) → ((i : ℕ) → get_or input i 0 < 256) 
 unfolding framed PacksAgain
 packs_again input h room body c e m wide fits =
     let f = is_framed room input body e in
-    let w = unstuffed body (0x55 ∷ []) (subst Bytes f (bytes input h)).1.1 in
-    let same : frame_of c ≡ input = ap framed (said body c (byte body 2 w) (byte body 4 w) m) ∙ sym f in
+    let bytes = recursion_from_All (λ b. b < 256) input (All-from_get_or (λ b. b < 256) input 0 (λ i _. h i)) in
+    let w = All-from_recursion (λ b. b < 256) body (unstuffed body (0x55 ∷ []) (subst Bytes f bytes).1.1) in
+    let long : 12 ≤ length body = omega (arith, (good body m.good).long) in
+    let same : frame_of c ≡ input = ap framed (said body c (w 2 0 (omega arith)) (w 4 0 (omega arith)) m) ∙ sym f in
     cond-false (ltb 31 (length c.payload)) _ _ (le-ltb 31 (length c.payload) (said_length body c m))
     ∙ (cond-false (ltb wide (length (frame_of c))) _ _ (le-ltb wide (length (frame_of c)) (omega (arith, ap length same))) ∙ ap made same)
 

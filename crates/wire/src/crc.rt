@@ -27,11 +27,11 @@ const TABLE: [u8; 256] = [
 fn crc_step(crc: u8, byte: u8) -> u8
     ensures { result ≡ eight_shifts (bit_xor crc byte) }
 {
-    // `as` and not `from`: behind a call the checker doesn't open the constant table.
-    TABLE[(crc ^ byte) as usize]
+    TABLE[usize::from(crc ^ byte)]
 }
 
 /// The CRC8 of `bytes`.
+#[tactic(auto, using(std::proofs::lemmas::List::drop_more, std::proofs::lemmas::List::drop_all), unfolding(crate::specs::Crc::crc_from))]
 pub fn crc8(bytes: &[u8]) -> u8
     ensures { result ≡ crc_of bytes.now }
 {

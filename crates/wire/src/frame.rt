@@ -84,6 +84,7 @@ fn escape(byte: u8) -> Option<u8>
 }
 
 /// How many bytes stuffing makes of `bytes`.
+#[tactic(auto, using(crate::proofs::Stuffing::stuffed_more, crate::proofs::Stuffing::stuffed_end))]
 fn stuffed_length(bytes: &[u8]) -> usize
     requires { length bytes.now ≤ 43 }
     ensures length { result ≡ length (stuffed bytes.now) }
@@ -120,6 +121,7 @@ fn stuff(bytes: &[u8], out: &mut [u8])
     requires { length out.old ≡ length (stuffed bytes.now) }
     ensures { out.new ≡ stuffed bytes.now }
 {
+    // An index by hand, as a byte takes one place or two.
     let mut at = 0;
     for byte in bytes {
         at = put(out, at, *byte);
@@ -155,6 +157,7 @@ fn write_body(fields: &Fields, body: &mut [u8]) -> usize
 }
 
 /// The length of the frame around `body`.
+#[tactic(auto, using(crate::proofs::Writing::length_framed))]
 fn frame_length(body: &[u8]) -> usize
     requires { length body.now ≤ 43 }
     ensures length { result ≡ length (framed body.now) }
@@ -164,6 +167,7 @@ fn frame_length(body: &[u8]) -> usize
 }
 
 /// Writes the frame around `body`, which has `size` bytes, at the buffer's front.
+#[tactic(auto, using(crate::proofs::Writing::framed_front, crate::proofs::Writing::framed_rest), unfolding(crate::specs::Framing::framed))]
 fn write_frame(body: &[u8], size: usize, buffer: &mut [u8])
     requires size { size ≡ length (stuffed body.now) + 3 }
     requires room { size ≤ length buffer.old }
@@ -185,6 +189,7 @@ pub fn pack(fields: &Fields, buffer: &mut [u8]) -> Result<usize, PackRefusal>
     if fields.payload.len() > MOST_DATA {
         return Err(PackRefusal::TooMuchData);
     }
+    // Fixed memory and its length, as the board has no heap.
     let mut body = [0; LONGEST];
     let end = write_body(fields, &mut body);
     let size = frame_length(&body[..end]);

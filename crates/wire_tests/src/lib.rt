@@ -13,7 +13,7 @@ mod tests {
         0x73, 0x55, 0x20, 0, 5, 0, 0xFF, 0xFF, 1, 0, 0, 0, 0, 0xCA, 0x55,
     ];
 
-    // What unpack answers: the body's length, or 100 and the refusal's number.
+    // What unpack answers: the body's length, or 100 and the refusal's number. Numbers, as the tests' values are.
     fn unpacked(input: &[u8], buffer: &mut [u8]) -> usize {
         match unpack(input, buffer) {
             Ok(length) => length,
@@ -21,7 +21,7 @@ mod tests {
         }
     }
 
-    // What a new receiver says of the bytes: 0 for nothing, 1 for a good frame, else the fault's number.
+    // What a new receiver says of the bytes: 0 for nothing, 1 for a good frame, else the fault's number. Numbers, as the tests' values are.
     fn heard(bytes: &[u8]) -> u8 {
         let mut receiver = Receiver::new();
         match receiver.run(bytes) {
