@@ -15,6 +15,7 @@ use wire::fault::Fault;
 use wire::receiver::LONGEST;
 
 /// What a body says. A complaint is an answer whose fourth status is not 0; its data are not read.
+// The two ends stand in each case: a struct around the enum would put a second match before each case's fields.
 #[derive(Clone, Copy, Debug, PartialEq, Eq)]
 pub enum Look<'a> {
     Question {

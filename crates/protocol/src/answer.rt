@@ -18,6 +18,7 @@ pub enum Answer<'a> {
     Relay,
 }
 
+// Source and data stay two parameters of each reader: a struct around them would be taken apart in each again.
 fn read_ping(source: u16, bytes: &[u8]) -> Option<Answer<'_>>
     ensures { Exactly (Means Command.Ping source bytes.now) result }
 {
