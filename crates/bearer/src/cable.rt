@@ -1,21 +1,29 @@
 //! The cable: a bearer whose far side is in the hands of the program.
 
-ghost use Rattle.std.specs.Prelude.{◌≡◌, ℕ, []};
-ghost use Rattle.bearer.specs.Cables.{line_of, feed_room, ends_of, Feeds, Fetches, Frees};
+ghost use Rattle.std.specs.Prelude.{◌≡◌, ℕ, ◌+◌, [], length};
+ghost use Rattle.bearer.specs.Cables.{feed_number, line_of, feed_room, ends_of, Feeds, Fetches, Frees};
 ghost use Rattle.bearer.specs.Lines.{Takes, Sends, exact_fall};
 
 use crate::ring::Ring;
 use crate::{Bearer, NoRoom};
 
 /// Why bytes are not fed; the discriminant is the refusal's number.
-#[derive(Clone, Copy)]
+#[derive(Clone, Copy, Debug, PartialEq, Eq)]
 pub enum FeedRefusal {
     /// The bytes exceed the free places.
     ExceedsPlaces = 7,
 }
 
+impl From<FeedRefusal> for u8 {
+    ghost from_gives = { λ refusal n. n ≡ feed_number refusal };
+
+    fn from(refusal: FeedRefusal) -> u8 {
+        refusal as u8
+    }
+}
+
 /// A line of 128 places each way.
-#[derive(Drop)]
+#[derive(Debug, Drop)]
 pub struct Cable {
     inward: Ring,
     outward: Ring,
@@ -72,7 +80,9 @@ impl Bearer for Cable {
         Ok(())
     }
 
-    fn room(&self) -> usize {
+    fn room(&self) -> usize
+        ensures places { result + length (line_of self.now).sent ≡ 128 }
+    {
         self.outward.free()
     }
 }

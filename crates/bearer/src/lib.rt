@@ -5,7 +5,7 @@ pub mod cable;
 mod ring;
 pub mod tape;
 
-ghost use Rattle.std.specs.Prelude.{◌≡◌, ℕ};
+ghost use Rattle.std.specs.Prelude.{◌≡◌, ℕ, ◌<◌, length, OnSome};
 ghost use Rattle.bearer.specs.Bearing.{Heard};
 ghost use Rattle.bearer.specs.Lines.{Line, Takes, Sends, exact_fall};
 ghost use Rattle.wire.specs.Receivers.{shows, held, outcome};
@@ -13,7 +13,7 @@ ghost use Rattle.wire.specs.Receivers.{shows, held, outcome};
 use wire::receiver::{Event, Receiver};
 
 /// The bytes exceed the room.
-#[derive(Clone, Copy)]
+#[derive(Clone, Copy, Debug, PartialEq, Eq)]
 pub struct NoRoom;
 
 /// A line that bytes cross: what it means is the bytes that wait, the bytes sent and not yet fetched, and its room.
@@ -35,7 +35,8 @@ pub trait Bearer {
 
 /// Moves the receiver over the waiting bytes, up to the first fault or good frame.
 pub fn listen<B: Bearer>(bearer: &mut B, receiver: &mut Receiver) -> Option<Event>
-    ensures { Heard (B.Bearer.state bearer.old) (shows receiver.old) (B.Bearer.state bearer.new) (shows receiver.new) (outcome result (held receiver.new)) }
+    ensures shorter { OnSome result (length (B.Bearer.state bearer.new).waiting < length (B.Bearer.state bearer.old).waiting) }
+    ensures heard { Heard (B.Bearer.state bearer.old) (shows receiver.old) (B.Bearer.state bearer.new) (shows receiver.new) (outcome result (held receiver.new)) }
 {
     while let Some(byte) = bearer.next() {
         if let Some(event) = receiver.receive(byte) {

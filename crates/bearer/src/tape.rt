@@ -5,14 +5,15 @@ ghost use Rattle.bearer.specs.Lines.{Takes, Sends, after_send, exact_fall};
 ghost use Rattle.bearer.specs.Tapes.{output, tape_line, written_at, Leaves};
 
 use crate::{Bearer, NoRoom};
-use wire::receiver::byte_at;
 
 /// A capture with the place of the next byte, and an outgoing buffer with its first unwritten place.
 #[derive(Drop)]
 pub struct Tape<'a> {
+    // Read by position, the project's form for a capture.
     capture: &'a [u8],
     at: usize,
     out: &'a mut [u8],
+    // At most the length of `out`; no ghost field says so, as the checker covers none beside a `&mut`.
     written: usize,
 }
 
@@ -41,7 +42,8 @@ impl<'a> Tape<'a> {
 
     /// Writes the bytes from the first unwritten place on.
     fn write(&mut self, start: usize, bytes: &[u8])
-        requires { (start ≡ min self.old.written (length (output self.old))) × (length bytes.now ≤ length (output self.old) - self.old.written) }
+        requires start { start ≡ min self.old.written (length (output self.old)) }
+        requires room { length bytes.now ≤ length (output self.old) - self.old.written }
         ensures sent { tape_line self.new ≡ after_send exact_fall bytes.now (tape_line self.old) }
         ensures output { output self.new ≡ written_at (length (tape_line self.old).sent) bytes.now (output self.old) }
         ensures same { self.new.out.ghost_name ≡ self.old.out.ghost_name }
@@ -60,7 +62,7 @@ impl<'a> Bearer for Tape<'a> {
         ensures output { output self.new ≡ output self.old }
         ensures same { self.new.out.ghost_name ≡ self.old.out.ghost_name }
     {
-        let byte = byte_at(self.capture, self.at)?;
+        let byte = *self.capture.get(self.at)?;
         self.at += 1;
         Some(byte)
     }

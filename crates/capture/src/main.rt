@@ -7,7 +7,7 @@ use bearer::{Bearer, listen};
 use heard::PING;
 use std::io;
 use text::write_bytes;
-use wire::receiver::{Event, Receiver};
+use wire::receiver::Receiver;
 
 /// Noise, with a mark in it; an answer with a wrong CRC; the question of a ping; more noise; the answer to the ping; a frame that is not whole.
 const CAPTURE: [u8; 55] = [
@@ -44,22 +44,20 @@ fn main(rt: HostRuntime) -> io::Result<()> {
 /// Prints what is heard until no byte waits.
 fn play<B: Bearer>(rt: &HostRuntime, name: &str, bearer: &mut B) -> io::Result<()> {
     let mut receiver = Receiver::new();
-    // A byte at the least is taken by each turn, and the capture has fewer.
-    for _ in 0..128 {
-        match listen(bearer, &mut receiver) {
-            None => return println!(rt; "{name}: no byte waits"),
-            Some(Event::Fault(fault)) => {
-                let number = fault as u8;
+    while let Some(event) = listen(bearer, &mut receiver) {
+        match event {
+            Err(fault) => {
+                let number = u8::from(fault);
                 println!(rt; "{name}: fault {number}")?;
             }
-            Some(Event::Good) => {
+            Ok(()) => {
                 let mut body = String::new(rt.alloc());
                 write_bytes(&mut body, receiver.body())?;
                 println!(rt; "{name}: a good frame, {body}")?;
             }
         }
     }
-    Ok(())
+    println!(rt; "{name}: no byte waits")
 }
 
 /// Sends the ping on the cable, and fetches it on the far side.
@@ -70,11 +68,8 @@ fn echo(rt: &HostRuntime, cable: &mut Cable) -> io::Result<()> {
     let free = cable.room();
     println!(rt; "cable: room for {free} behind the ping")?;
     let mut fetched = 0u32;
-    for _ in 0..128 {
-        if cable.fetch().is_none() {
-            break;
-        }
-        fetched = fetched.saturating_add(1);
+    while cable.fetch().is_some() {
+        fetched += 1;
     }
     let free = cable.room();
     println!(rt; "cable: {fetched} bytes fetched, room for {free}")

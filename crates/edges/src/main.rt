@@ -6,7 +6,7 @@ use std::io;
 use wire::body::{Direction, Fields};
 use wire::crc::crc8;
 use wire::frame::{pack, unpack};
-use wire::receiver::{Event, Receiver};
+use wire::receiver::Receiver;
 use worked::examples;
 
 /// The longest frame has 89 bytes.
@@ -15,12 +15,13 @@ const FRAME: usize = 89;
 fn main(rt: HostRuntime) -> io::Result<()> {
     let count = examples();
     println!(rt; "{count} worked examples hold")?;
-    try_data(&rt, 31)?;
-    try_data(&rt, 32)?;
-    try_body(&rt, 11)?;
-    try_body(&rt, 12)?;
-    try_body(&rt, 43)?;
-    try_body(&rt, 44)
+    for count in [31, 32] {
+        try_data(&rt, count)?;
+    }
+    for length in [11, 12, 43, 44] {
+        try_body(&rt, length)?;
+    }
+    Ok(())
 }
 
 /// Packs so many data bytes, all of which stuffing doubles.
@@ -38,7 +39,7 @@ fn try_data(rt: &HostRuntime, count: usize) -> io::Result<()> {
     match pack(&fields, &mut frame) {
         Ok(length) => println!(rt; "{count} data bytes: a frame of {length} bytes"),
         Err(refusal) => {
-            let number = refusal as u8;
+            let number = u8::from(refusal);
             println!(rt; "{count} data bytes: refused {number}")
         }
     }
@@ -48,9 +49,7 @@ fn try_data(rt: &HostRuntime, count: usize) -> io::Result<()> {
 fn body(heap: Global, length: usize) -> Result<Vec<u8>, AllocError> {
     let data = length.saturating_sub(12).min(31);
     let mut body = vec![in heap; data as u8]?;
-    for _ in 2..length {
-        body.push(0)?;
-    }
+    body.resize(length.saturating_sub(1), 0)?;
     let crc = crc8(&body);
     body.push(crc)?;
     Ok(body)
@@ -78,18 +77,18 @@ fn try_body(rt: &HostRuntime, length: usize) -> io::Result<()> {
     match unpack(&frame, &mut buffer) {
         Ok(count) => println!(rt; "a body of {length} bytes: unpacked to {count}")?,
         Err(refusal) => {
-            let number = refusal.number();
+            let number = u8::from(refusal);
             println!(rt; "a body of {length} bytes: unpack refused {number}")?;
         }
     }
     let mut receiver = Receiver::new();
     match receiver.run(&frame) {
         (taken, None) => println!(rt; "a body of {length} bytes: nothing received from {taken}"),
-        (taken, Some(Event::Good)) => println!(rt;
+        (taken, Some(Ok(()))) => println!(rt;
             "a body of {length} bytes: received with byte {taken}"
         ),
-        (taken, Some(Event::Fault(fault))) => {
-            let number = fault as u8;
+        (taken, Some(Err(fault))) => {
+            let number = u8::from(fault);
             println!(rt; "a body of {length} bytes: fault {number} at byte {taken}")
         }
     }

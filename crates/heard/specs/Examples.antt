@@ -1,7 +1,6 @@
 -- What the examples show.
 use Rattle.std.specs.Prelude.{◌≡◌, ℕ, ◌<◌, ◌≤◌, List, [], ◌∷◌, ◌++◌, length, drop, Some, Ok, Err, Option, Result}
-use Rattle.wire.specs.declared.receiver.Event.{Event}
-use Rattle.wire.specs.declared.receiver.Event.TheVariants.{Good}
+use Rattle.wire.specs.declared.fault.Fault.{Fault}
 
 -- the body of the question of a ping to the meter at address 5, and the frame around it
 abbrev pub body : List ℕ
@@ -11,8 +10,8 @@ abbrev pub ping : List ℕ
 ping = 0x73 ∷ 0x55 ∷ (body ++ 0x55 ∷ [])
 
 -- a good frame is heard
-abbrev pub Hears : Option Event → Type 0
-Hears r = r ≡ Some Good
+abbrev pub Hears : Option (Result (Unit {0}) Fault) → Type 0
+Hears r = r ≡ Some (Ok tt)
 
 -- what the caller finds in the buffer when the tape is gone: the bytes at its front and the rest as it was, or all as it was
 -- exactly when the bytes exceed it

@@ -28,10 +28,8 @@ pub fn over_cable() -> Option<Event>
     ensures { Hears result }
 {
     let mut cable = Cable::new();
-    match cable.feed(&PING) {
-        Ok(()) => hear(&mut cable),
-        Err(_) => None,
-    }
+    cable.feed(&PING).ok()?;
+    hear(&mut cable)
 }
 
 /// Reads the ping from a new tape and listens.

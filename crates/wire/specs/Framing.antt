@@ -54,8 +54,3 @@ unpacked room input = cond (nat_lt room 43) (refused 3) (unframed input)
 abbrev pub Writes : {E : Type 0} → (E → ℕ) → Made → Result ℕ E → List ℕ → List ℕ → Type 0
 Writes number m (Ok n) was now = (m ≡ made (take n now)) × (n ≤ length was) × (drop n now ≡ drop n was)
 Writes number m (Err e) was now = (m ≡ refused (number e)) × (now ≡ was)
-
--- a fact of every granted call
-abbrev pub Granted : {E : Type 0} → Result ℕ E → Type 0 → Type 0
-Granted (Ok n) P = P
-Granted (Err e) P = Unit {0}

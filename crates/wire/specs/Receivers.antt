@@ -1,5 +1,5 @@
 -- The receiver of the code, as the machine that it is.
-use Rattle.std.specs.Prelude.{◌≡◌, ℕ, min, List, take, Some, None, Ok, Err, Option, Result}
+use Rattle.std.specs.Prelude.{◌≡◌, ℕ, List, take, Some, None, Ok, Err, Option, Result}
 use Rattle.wire.specs.Faults.{fault_number}
 use Rattle.wire.specs.Receiving.{Receiving, Outcome, hunting, marked, inside, escaped, nothing, fault, good}
 use Rattle.wire.specs.Framing.{made, refused, unframed}
@@ -8,13 +8,12 @@ use Rattle.wire.specs.Trips.{PacksAgain}
 use Rattle.wire.specs.declared.frame.UnpackRefusal.{UnpackRefusal}
 use Rattle.wire.specs.declared.receiver.Condition.{Condition}
 use Rattle.wire.specs.declared.receiver.Condition.TheVariants.{Hunting, Marked, Inside, Escaped}
-use Rattle.wire.specs.declared.receiver.Event.{Event}
-use Rattle.wire.specs.declared.receiver.Event.TheVariants.{Fault, Good}
+use Rattle.wire.specs.declared.fault.Fault.{Fault}
 use Rattle.wire.specs.declared.receiver.Receiver.{Receiver}
 
 -- the bytes of the body that a receiver holds
 abbrev pub held : Receiver → List ℕ
-held r = take (min r.length 43) r.bytes
+held r = take r.length r.bytes
 
 abbrev pub standing : Condition → List ℕ → Receiving
 standing Hunting body = hunting
@@ -26,10 +25,10 @@ abbrev pub shows : Receiver → Receiving
 shows r = standing r.condition (held r)
 
 -- what an answer says, where the receiver then holds these bytes: a good frame's body is what it holds
-abbrev pub outcome : Option Event → List ℕ → Outcome
+abbrev pub outcome : Option (Result (Unit {0}) Fault) → List ℕ → Outcome
 outcome None body = nothing
-outcome (Some (Fault f)) body = fault (fault_number f)
-outcome (Some Good) body = good body
+outcome (Some (Err f)) body = fault (fault_number f)
+outcome (Some (Ok ended)) body = good body
 
 -- an input that is one whole good frame is accepted with its body, and then what it says packs again to it
 abbrev pub Accepts : List ℕ → Result Receiver UnpackRefusal → Type 0

@@ -11,14 +11,14 @@ use crate::fault::Fault;
 const SHORTEST: usize = 12;
 
 /// Who speaks: D in the parameter byte.
-#[derive(Clone, Copy)]
+#[derive(Clone, Copy, Debug, PartialEq, Eq)]
 pub enum Direction {
     Request,
     Answer,
 }
 
 /// What a frame says.
-#[derive(Clone, Copy)]
+#[derive(Clone, Copy, Debug, PartialEq, Eq)]
 pub struct Fields<'a> {
     pub direction: Direction,
     pub destination: u16,
@@ -30,7 +30,7 @@ pub struct Fields<'a> {
 }
 
 impl Direction {
-    /// Whose a parameter byte is, in which C and V0 are 0.
+    /// Whose a parameter byte is, in which C and V0 are 0; other bytes have no direction, so this is no `From`.
     fn of(parameter: u8) -> Direction
         ensures { is_request result ≡ nat_le 32 parameter }
     {
@@ -41,7 +41,7 @@ impl Direction {
         }
     }
 
-    /// D, in its place in the parameter byte.
+    /// D, in its place in the parameter byte; no `From`, as the value is the bit's and no number of the direction.
     pub(crate) fn bit(self) -> u8
         ensures { result ≡ (if is_request self then 32 else 0) }
     {
@@ -52,13 +52,6 @@ impl Direction {
     }
 }
 
-/// A number of two bytes, of which the low one came first.
-fn low_first(low: u8, high: u8) -> u16
-    ensures { result ≡ low + 256 * high }
-{
-    low as u16 + 256 * high as u16
-}
-
 /// Whether the body is good, or the first fault of it.
 pub fn judge(body: &[u8]) -> Result<(), Fault>
     ensures { verdict body.now ≡ judged result }
@@ -67,10 +60,10 @@ pub fn judge(body: &[u8]) -> Result<(), Fault>
         return Err(Fault::Short);
     }
     let end = body.len() - 1;
-    if body.len() != SHORTEST + (body[0] % 32) as usize {
+    if body.len() != SHORTEST + usize::from(body[0] % 32) {
         return Err(Fault::Length);
     }
-    if body[end] != crc8(&body[0..end]) {
+    if body[end] != crc8(&body[..end]) {
         return Err(Fault::Crc);
     }
     if body[0] >= 64 || body[1] != 0 {
@@ -105,16 +98,12 @@ impl<'a> Fields<'a> {
         let [payload @ .., _] = rest else {
             return Err(Fault::Short);
         };
-        let direction = Direction::of(*parameter);
-        let destination = low_first(*d0, *d1);
-        let source = low_first(*s0, *s1);
-        let four = [*f0, *f1, *f2, *f3];
         Ok(Fields {
-            direction,
-            destination,
-            source,
+            direction: Direction::of(*parameter),
+            destination: u16::from_le_bytes([*d0, *d1]),
+            source: u16::from_le_bytes([*s0, *s1]),
             command: *command,
-            four,
+            four: [*f0, *f1, *f2, *f3],
             payload,
         })
     }

@@ -27,6 +27,7 @@ const TABLE: [u8; 256] = [
 fn crc_step(crc: u8, byte: u8) -> u8
     ensures { result ≡ eight_shifts (bit_xor crc byte) }
 {
+    // `as` and not `from`: behind a call the checker doesn't open the constant table.
     TABLE[(crc ^ byte) as usize]
 }
 

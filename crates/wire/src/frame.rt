@@ -1,23 +1,24 @@
 //! Frames: packed from their fields, and unpacked to their bodies.
 
-ghost use Rattle.std.specs.Prelude.{◌≡◌, ◌+◌, ◌-◌, ◌*◌, ◌<◌, ◌≤◌, [], ◌∷◌, ◌++◌, length, take, drop, MatchOption};
-ghost use Rattle.wire.specs.Bodies.{two_bytes, uncrced, body_of};
+ghost use Rattle.std.specs.Prelude.{◌≡◌, ◌+◌, ◌-◌, ◌*◌, ◌<◌, ◌≤◌, [], ◌∷◌, ◌++◌, length, take, drop, MatchOption, OnOk};
+ghost use Rattle.wire.specs.Bodies.{uncrced, body_of};
 ghost use Rattle.wire.specs.Fields.{content};
-ghost use Rattle.wire.specs.Framing.{stuffed, stuffed_byte, framed, packed, unpacked, Writes, Granted};
+ghost use Rattle.wire.specs.Framing.{stuffed, stuffed_byte, framed, packed, unpacked, Writes};
 ghost use Rattle.wire.specs.Receivers.{Accepts};
 ghost use Rattle.wire.specs.Trips.{PacksAgain, UnpacksBack};
 ghost use Rattle.wire.specs.Refusals.{pack_number, unpack_number};
+ghost use Rattle.wire.specs.declared.frame.UnpackRefusal.TheVariants.{Faulty};
 
 use crate::body::Fields;
 use crate::crc::crc8;
 use crate::fault::Fault;
-use crate::receiver::{Event, FLAG, FLAG_ESCAPED, LONGEST, MARK, MARK_ESCAPED, Receiver, byte_at};
+use crate::receiver::{FLAG, FLAG_ESCAPED, LONGEST, MARK, MARK_ESCAPED, Receiver};
 
 /// The most data bytes of a frame: what five bits can state.
 const MOST_DATA: usize = 31;
 
 /// Why no frame is written; the discriminant is the refusal's number.
-#[derive(Clone, Copy)]
+#[derive(Clone, Copy, Debug, PartialEq, Eq)]
 pub enum PackRefusal {
     /// More than 31 data bytes.
     TooMuchData = 1,
@@ -26,7 +27,7 @@ pub enum PackRefusal {
 }
 
 /// Why no body is written.
-#[derive(Clone, Copy)]
+#[derive(Clone, Copy, Debug, PartialEq, Eq)]
 pub enum UnpackRefusal {
     /// The buffer is shorter than the longest body.
     ShortOfBody,
@@ -40,17 +41,33 @@ pub enum UnpackRefusal {
     Faulty(Fault),
 }
 
-impl UnpackRefusal {
-    /// The refusal's number; a fault has its own.
-    pub fn number(self) -> u8
-        ensures { result ≡ unpack_number self }
-    {
-        match self {
+impl From<Fault> for UnpackRefusal {
+    ghost from_gives = { λ fault refusal. refusal ≡ Faulty fault };
+
+    fn from(fault: Fault) -> UnpackRefusal {
+        UnpackRefusal::Faulty(fault)
+    }
+}
+
+impl From<PackRefusal> for u8 {
+    ghost from_gives = { λ refusal n. n ≡ pack_number refusal };
+
+    fn from(refusal: PackRefusal) -> u8 {
+        refusal as u8
+    }
+}
+
+/// A refusal's number; a fault has its own.
+impl From<UnpackRefusal> for u8 {
+    ghost from_gives = { λ refusal n. n ≡ unpack_number refusal };
+
+    fn from(refusal: UnpackRefusal) -> u8 {
+        match refusal {
             UnpackRefusal::ShortOfBody => 3,
             UnpackRefusal::NoStart => 4,
             UnpackRefusal::Unfinished => 5,
             UnpackRefusal::Trailing => 6,
-            UnpackRefusal::Faulty(fault) => fault as u8,
+            UnpackRefusal::Faulty(fault) => u8::from(fault),
         }
     }
 }
@@ -115,31 +132,25 @@ fn header(fields: &Fields) -> [u8; 11]
     ensures { result ++ fields.now.payload.now ≡ uncrced (content fields.now) }
 {
     let parameter = fields.direction.bit() + fields.payload.len() as u8;
-    let [d0, d1] = low_first(fields.destination);
-    let [s0, s1] = low_first(fields.source);
+    let [d0, d1] = fields.destination.to_le_bytes();
+    let [s0, s1] = fields.source.to_le_bytes();
     let [f0, f1, f2, f3] = fields.four;
     [parameter, 0, d0, d1, s0, s1, fields.command, f0, f1, f2, f3]
 }
 
-/// The two bytes of a number, the low one first.
-fn low_first(number: u16) -> [u8; 2]
-    ensures { result ≡ two_bytes number }
-{
-    [(number % 256) as u8, (number / 256) as u8]
-}
-
 /// Puts the body at the front of the places for the longest one, and answers its length.
 fn write_body(fields: &Fields, body: &mut [u8]) -> usize
-    requires { (length fields.now.payload.now ≤ 31) × (length body.old ≡ 43) }
+    requires data { length fields.now.payload.now ≤ 31 }
+    requires places { length body.old ≡ 43 }
     ensures length { result ≡ 12 + length fields.now.payload.now }
     ensures body { take result body.new ≡ body_of (content fields.now) }
     ensures back { UnpacksBack (content fields.now) }
 {
     let end = 11 + fields.payload.len();
     let header = header(fields);
-    body[0..11].copy_from_slice(&header);
+    body[..11].copy_from_slice(&header);
     body[11..end].copy_from_slice(fields.payload);
-    body[end] = crc8(&body[0..end]);
+    body[end] = crc8(&body[..end]);
     end + 1
 }
 
@@ -154,7 +165,8 @@ fn frame_length(body: &[u8]) -> usize
 
 /// Writes the frame around `body`, which has `size` bytes, at the buffer's front.
 fn write_frame(body: &[u8], size: usize, buffer: &mut [u8])
-    requires { (size ≡ length (stuffed body.now) + 3) × (size ≤ length buffer.old) }
+    requires size { size ≡ length (stuffed body.now) + 3 }
+    requires room { size ≤ length buffer.old }
     ensures front { take size buffer.new ≡ framed body.now }
     ensures rest { drop size buffer.new ≡ drop size buffer.old }
 {
@@ -167,7 +179,7 @@ fn write_frame(body: &[u8], size: usize, buffer: &mut [u8])
 
 /// Writes the frame of `fields` at the buffer's front and answers its length.
 pub fn pack(fields: &Fields, buffer: &mut [u8]) -> Result<usize, PackRefusal>
-    ensures back { Granted result (UnpacksBack (content fields.now)) }
+    ensures back { OnOk result (UnpacksBack (content fields.now)) }
     ensures written { Writes pack_number (packed (length buffer.old) (content fields.now)) result buffer.old buffer.new }
 {
     if fields.payload.len() > MOST_DATA {
@@ -175,11 +187,11 @@ pub fn pack(fields: &Fields, buffer: &mut [u8]) -> Result<usize, PackRefusal>
     }
     let mut body = [0; LONGEST];
     let end = write_body(fields, &mut body);
-    let size = frame_length(&body[0..end]);
+    let size = frame_length(&body[..end]);
     if buffer.len() < size {
         return Err(PackRefusal::ShortOfFrame);
     }
-    write_frame(&body[0..end], size, buffer);
+    write_frame(&body[..end], size, buffer);
     Ok(size)
 }
 
@@ -191,7 +203,7 @@ fn deliver(body: &[u8], buffer: &mut [u8]) -> usize
     ensures rest { drop result buffer.new ≡ drop result buffer.old }
 {
     let end = body.len();
-    buffer[0..end].copy_from_slice(body);
+    buffer[..end].copy_from_slice(body);
     end
 }
 
@@ -204,20 +216,20 @@ fn accept(input: &[u8]) -> Result<Receiver, UnpackRefusal>
     };
     let mut receiver = Receiver::inside();
     let (taken, event) = receiver.run(rest);
-    match event {
-        None => Err(UnpackRefusal::Unfinished),
-        Some(Event::Fault(fault)) => Err(UnpackRefusal::Faulty(fault)),
-        Some(Event::Good) => match byte_at(rest, taken) {
-            Some(_) => Err(UnpackRefusal::Trailing),
-            None => Ok(receiver),
-        },
+    let Some(ended) = event else {
+        return Err(UnpackRefusal::Unfinished);
+    };
+    ended?;
+    if taken < rest.len() {
+        return Err(UnpackRefusal::Trailing);
     }
+    Ok(receiver)
 }
 
 /// Puts the body of the one whole frame that is `input` at the buffer's front and answers its length.
 pub fn unpack(input: &[u8], buffer: &mut [u8]) -> Result<usize, UnpackRefusal>
     ensures written { Writes unpack_number (unpacked (length buffer.old) input.now) result buffer.old buffer.new }
-    ensures again { Granted result (PacksAgain input.now) }
+    ensures again { OnOk result (PacksAgain input.now) }
 {
     if buffer.len() < LONGEST {
         return Err(UnpackRefusal::ShortOfBody);

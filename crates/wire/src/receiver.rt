@@ -2,7 +2,6 @@
 
 ghost use Rattle.std.specs.Prelude.{◌≡◌, ◌+◌, ◌-◌, ◌<◌, ◌≤◌, [], ◌∷◌, ◌++◌, length, drop, MatchOption, slice_index};
 ghost use Rattle.wire.specs.Receiving.{hunting, inside, joined, closed, step, run};
-ghost use Rattle.wire.specs.Receivers.{shows, held, outcome, standing};
 
 use crate::body::judge;
 use crate::fault::Fault;
@@ -20,7 +19,7 @@ pub const FLAG_ESCAPED: u8 = 0x11;
 pub const MARK_ESCAPED: u8 = 0x22;
 
 /// Where a receiver stands between two bytes.
-#[derive(Clone, Copy)]
+#[derive(Clone, Copy, Debug, PartialEq, Eq)]
 enum Condition {
     /// Outside a frame.
     Hunting,
@@ -32,60 +31,41 @@ enum Condition {
     Escaped,
 }
 
-/// What a byte brings about.
-#[derive(Clone, Copy)]
-pub enum Event {
-    /// The body is given up.
-    Fault(Fault),
-    /// A good frame has ended; its body stays in the receiver until the next frame begins.
-    Good,
-}
+/// What ends a body: a fault, or a good frame, whose body stays in the receiver until the next frame begins.
+pub type Event = Result<(), Fault>;
 
-/// The bytes from a place on.
-fn rest(bytes: &[u8], at: usize) -> &[u8]
-    ensures length { length result.now ≡ length bytes.now - at }
-    ensures none { length result.now ≡ 0 → drop at bytes.now ≡ [] }
-    ensures some { 0 < length result.now → drop at bytes.now ≡ slice_index result.now 0 ∷ drop (at + 1) bytes.now }
-{
-    &bytes[at.min(bytes.len())..]
-}
-
-/// The byte at a place, if there is one.
-pub fn byte_at(bytes: &[u8], at: usize) -> Option<u8>
-    ensures { MatchOption result (drop at bytes.now ≡ []) (λ b. (at < length bytes.now) × (drop at bytes.now ≡ b ∷ drop (at + 1) bytes.now)) }
-{
-    match rest(bytes, at) {
-        [byte, ..] => Some(*byte),
-        [] => None,
-    }
-}
-
-/// A receiver, with the body as far as it has come in.
-#[derive(Drop)]
+/// A receiver, with the body as far as it has come in; its places are fixed, as the board has no heap.
+#[derive(Debug, Drop)]
 pub struct Receiver {
     condition: Condition,
     bytes: [u8; LONGEST],
     length: usize,
+    ghost few: { length ≤ 43 },
 }
 
 impl Receiver {
+    ghost use Rattle.wire.specs.Receivers.{shows, held, outcome, standing};
+
     /// A receiver that hunts for a frame.
     pub fn new() -> Receiver
         ensures { shows result ≡ hunting }
     {
-        Receiver {
-            condition: Condition::Hunting,
-            bytes: [0; LONGEST],
-            length: 0,
-        }
+        Receiver::empty(Condition::Hunting)
     }
 
     /// A receiver behind a frame's first two bytes.
     pub(crate) fn inside() -> Receiver
         ensures { shows result ≡ inside [] }
     {
+        Receiver::empty(Condition::Inside)
+    }
+
+    /// A receiver that holds nothing.
+    fn empty(condition: Condition) -> Receiver
+        ensures { shows result ≡ standing condition [] }
+    {
         Receiver {
-            condition: Condition::Inside,
+            condition,
             bytes: [0; LONGEST],
             length: 0,
         }
@@ -106,15 +86,9 @@ impl Receiver {
             (Condition::Inside, _) => self.join(byte),
             (Condition::Escaped, FLAG_ESCAPED) => self.join(FLAG),
             (Condition::Escaped, MARK_ESCAPED) => self.join(MARK),
-            (Condition::Escaped, FLAG) => self.open(Some(Event::Fault(Fault::Escape))),
-            (Condition::Escaped, MARK) => self.turn(
-                Condition::Marked,
-                Some(Event::Fault(Fault::Escape)),
-            ),
-            (Condition::Escaped, _) => self.turn(
-                Condition::Hunting,
-                Some(Event::Fault(Fault::Escape)),
-            ),
+            (Condition::Escaped, FLAG) => self.open(Some(Err(Fault::Escape))),
+            (Condition::Escaped, MARK) => self.turn(Condition::Marked, Some(Err(Fault::Escape))),
+            (Condition::Escaped, _) => self.turn(Condition::Hunting, Some(Err(Fault::Escape))),
         }
     }
 
@@ -123,14 +97,12 @@ impl Receiver {
         ensures taken { result.0 ≤ length bytes.now }
         ensures ran { run (shows self.old) bytes.now ≡ record { receiver = shows self.new; outcome = outcome result.1 (held self.new); left = drop result.0 bytes.now } }
     {
-        let mut taken = 0;
-        while let Some(byte) = byte_at(bytes, taken) {
-            taken += 1;
-            if let Some(event) = self.receive(byte) {
-                return (taken, Some(event));
+        for (i, byte) in bytes.iter().enumerate() {
+            if let Some(event) = self.receive(*byte) {
+                return (i + 1, Some(event));
             }
         }
-        (taken, None)
+        (bytes.len(), None)
     }
 
     /// The body that the receiver holds: after a good frame, that frame's.
@@ -138,8 +110,7 @@ impl Receiver {
         ensures bytes { result.now ≡ held self.now }
         ensures bound { length result.now ≤ 43 }
     {
-        let end = self.length.min(LONGEST);
-        &self.bytes[0..end]
+        &self.bytes[..self.length]
     }
 
     /// Goes on in another condition, and hands the event on.
@@ -167,10 +138,7 @@ impl Receiver {
         ensures { closed (held self.old) ≡ (shows self.new, outcome result (held self.new)) }
     {
         self.condition = Condition::Hunting;
-        match judge(self.body()) {
-            Ok(()) => Some(Event::Good),
-            Err(fault) => Some(Event::Fault(fault)),
-        }
+        Some(judge(self.body()))
     }
 
     /// One byte more of the body, if it has place for it.
@@ -179,7 +147,7 @@ impl Receiver {
     {
         if self.length >= LONGEST {
             self.condition = Condition::Hunting;
-            return Some(Event::Fault(Fault::Overlong));
+            return Some(Err(Fault::Overlong));
         }
         self.hold(byte);
         None
@@ -191,9 +159,8 @@ impl Receiver {
         ensures few { length (held self.old) < 43 }
         ensures shows { shows self.new ≡ inside (held self.old ++ byte ∷ []) }
     {
-        let at = self.length;
         self.condition = Condition::Inside;
-        self.bytes[at] = byte;
-        self.length = at + 1;
+        self.bytes[self.length] = byte;
+        self.length += 1;
     }
 }

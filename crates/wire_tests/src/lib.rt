@@ -7,7 +7,7 @@ mod tests {
     use wire::body::{Direction, Fields};
     use wire::crc::crc8;
     use wire::frame::{pack, unpack};
-    use wire::receiver::{Event, Receiver};
+    use wire::receiver::Receiver;
 
     const PING: [u8; 15] = [
         0x73, 0x55, 0x20, 0, 5, 0, 0xFF, 0xFF, 1, 0, 0, 0, 0, 0xCA, 0x55,
@@ -17,7 +17,7 @@ mod tests {
     fn unpacked(input: &[u8], buffer: &mut [u8]) -> usize {
         match unpack(input, buffer) {
             Ok(length) => length,
-            Err(refusal) => 100 + refusal.number() as usize,
+            Err(refusal) => 100 + usize::from(u8::from(refusal)),
         }
     }
 
@@ -26,8 +26,8 @@ mod tests {
         let mut receiver = Receiver::new();
         match receiver.run(bytes) {
             (_, None) => 0,
-            (_, Some(Event::Good)) => 1,
-            (_, Some(Event::Fault(fault))) => fault as u8,
+            (_, Some(Ok(()))) => 1,
+            (_, Some(Err(fault))) => u8::from(fault),
         }
     }
 

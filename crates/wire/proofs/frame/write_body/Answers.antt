@@ -1,4 +1,4 @@
-use Rattle.std.proofs.Common.{ℕ, ◌+◌, ◌-◌, ◌++◌, length, ◌∙◌, arith, rules}
+use Rattle.std.proofs.Common.{ℕ, ◌+◌, ◌-◌, refl, ◌++◌, length, ◌∙◌, rules}
 use borrow.Rule.Slice.PartMut.{post_of}
 use Rattle.std.proofs.lemmas.List.{places}
 use Rattle.wire.specs.Bodies.{body_of}
@@ -18,6 +18,6 @@ returns c =
     record {
       length = search rules;
       body =
-          crc_behind _ _ n (n - 0) c.crc8.result (search (rules, places)) (front ∙ ((λ i. head i ++ tail i) ∙ c.header-header.ensures)) (omega arith) c.crc8.ensures;
+          crc_behind _ _ n n c.crc8.result (search (rules, places)) (front ∙ ((λ i. head i ++ tail i) ∙ c.header-header.ensures)) refl c.crc8.ensures;
       back = unpacks_back _ (search rules) (search rules);
     }

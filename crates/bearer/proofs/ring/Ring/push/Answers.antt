@@ -1,8 +1,11 @@
-use Rattle.std.proofs.Common.{◌≡◌, length, refl, arith}
-use Rattle.bearer.proofs.Rings.{held_push_one}
+use Rattle.std.proofs.Common.{◌<◌, [], ◌∷◌, ◌++◌, length, ap, ◌∙◌, arith, rules}
+use Rattle.bearer.proofs.Rings.{length-held, held_push}
 use Rattle.bearer.proofs.ring.Ring.push.Goals as goal
 
 pub returns : goal.returns
 returns c =
-    let all : length c.args.self.now.places ≡ 128 = omega arith in
-    record { added = held_push_one _ _ _ _ all c.args.self.now.inside c.requires; count = refl }
+    let r = c.self.inside in
+    let same = ap length c.self.view_is in
+    let few : r.count < 128 = omega (arith, length-held r.places r.head r.count) in
+    held_push r.places c.args.byte r.head r.count (search rules) c.self.invariant.0 few
+    ∙ ap (λ bytes. bytes ++ c.args.byte ∷ []) c.self.view_is

@@ -14,9 +14,9 @@ returns c =
           λ i.
           record {
             waiting = drop t.at t.capture.now;
-            sent = sent_more a t.written k t.out.now _ bs c.copy.ensures c.requires.0 many c.requires.1 i;
-            room = room_less a t.written k t.out.now _ bs c.copy.ensures c.requires.0 many c.requires.1 i;
+            sent = sent_more a t.written k t.out.now _ bs c.copy.ensures c.requires.start many c.requires.room i;
+            room = room_less a t.written k t.out.now _ bs c.copy.ensures c.requires.start many c.requires.room i;
           };
-      output = whole a t.written k t.out.now _ bs c.copy.ensures c.requires.0 many c.requires.1;
+      output = whole a t.written k t.out.now _ bs c.copy.ensures c.requires.start many c.requires.room;
       same = refl;
     }
