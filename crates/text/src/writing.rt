@@ -1,8 +1,8 @@
 //! Answers as text.
 
-ghost use Rattle.std.specs.Prelude.{◌≡◌, ◌<◌, ◌++◌, string_bytes, codes, decimal, OnOk};
+ghost use Rattle.std.specs.Prelude.{◌≡◌, ◌++◌, string_bytes, codes, OnOk};
 ghost use Rattle.std.specs.List.{flat_map};
-ghost use Rattle.text.specs.Answers.{hex_digit, two_digits, solid_pairs, trailing_pairs, trailing_numbers, text_word, refusal};
+ghost use Rattle.text.specs.Answers.{two_digits, solid_pairs, trailing_pairs, trailing_numbers, text_word, refusal};
 
 use crate::phrases::meaning;
 use std::alloc::AllocError;
@@ -27,6 +27,7 @@ fn write_pairs(out: &mut String, separator: &str, bytes: &[u8]) -> Result<(), Al
 }
 
 /// Appends numbers in decimal, each behind a space.
+// A loop of its own beside that of the pairs: a closure for what is written of an item would be longer than the loop.
 pub fn write_numbers(out: &mut String, numbers: &[u32]) -> Result<(), AllocError>
     ensures { OnOk result (string_bytes out.new ≡ string_bytes out.old ++ trailing_numbers numbers.now) }
 {

@@ -17,9 +17,6 @@ pub pushed_pair : (xs ys w : List ℕ) (b : ℕ) (all : Option (List ℕ)) → 2
 pushed_pair xs ys w b all h e q a =
     ap (λ l. behind l (pairs (take (length w - 2) (drop 2 w)))) q ∙ behind_more xs b (pairs (take (length w - 2) (drop 2 w))) ∙ ap (λ o. behind xs (before o (pairs (take (length w - 2) (drop 2 w))))) e ∙ ap (behind xs) (sym (pairs_more w h)) ∙ a
 
-pub bad_pair : (xs w : List ℕ) (all : Option (List ℕ)) → 2 ≤ length w → None ≡ pair (get_or w 0 0) (get_or w 1 0) → behind xs (pairs w) ≡ all → None ≡ all
-bad_pair xs w all h e a = ap (λ o. behind xs (before o (pairs (take (length w - 2) (drop 2 w))))) e ∙ ap (behind xs) (sym (pairs_more w h)) ∙ a
-
 behind_behind : (xs ys : List ℕ) (o : Option (List ℕ)) → behind (xs ++ ys) o ≡ behind xs (behind ys o)
 behind_behind xs ys None = refl
 behind_behind xs ys (Some zs) = ap Some (append_assoc xs ys zs)
