@@ -1,28 +1,23 @@
 -- What the console answers to a line.
-use Rattle.std.specs.Prelude.{◌≡◌, ℕ, Bool, true, false, List, [], ◌∷◌, ◌++◌, vec_items, codes}
+use Rattle.std.specs.Prelude.{◌≡◌, ℕ, List, [], ◌∷◌, ◌++◌, vec_items, codes}
 use Rattle.script.specs.declared.command.Command.{Command}
 use Rattle.script.specs.declared.command.Command.TheVariants.{Post, Pack, Unpack, Look, Same, Call}
-use Rattle.script.specs.declared.command.Direction.{Direction}
-use Rattle.script.specs.declared.command.Direction.TheVariants.{Request, Answer}
 use Rattle.script.specs.declared.command.Line.{Line}
 use Rattle.script.specs.declared.command.Line.TheVariants.{Nothing, Unreadable, Command as Asks}
 use Rattle.script.specs.Grammar.{meaning_of}
 use Rattle.script.specs.Shown.{line_shown}
 use Rattle.tokens.specs.Words.{words}
+use Rattle.wire.specs.Fields.{is_request}
 use Rattle.wire.specs.Framing.{packed, unpacked}
 use Rattle.answers.specs.Frames.{made_text}
 use Rattle.answers.specs.Spoken.{LookText}
-
-abbrev pub asks : Direction → Bool
-asks Request = true
-asks Answer = false
 
 -- the text that answers a command: frames by pack and unpack in a buffer of the stated length, bodies by look; the calls of
 -- a layer that is not built yet are answered as such
 abbrev pub AnswerText : Command → List ℕ → Type 0
 AnswerText (Pack d destination source c four buffer bytes) text =
     text
-    ≡ made_text (packed buffer (record { request = asks d; destination = destination; source = source; command = c; four = four; payload = vec_items bytes }))
+    ≡ made_text (packed buffer (record { request = is_request d; destination = destination; source = source; command = c; four = four; payload = vec_items bytes }))
 AnswerText (Unpack buffer bytes) text = text ≡ made_text (unpacked buffer (vec_items bytes))
 AnswerText (Look bytes) text = LookText (vec_items bytes) text
 AnswerText (Post name meters readings) text = text ≡ codes "not yet"

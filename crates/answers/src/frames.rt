@@ -19,12 +19,13 @@ pub(crate) fn write_packed(
     ensures { OnOk result (string_bytes out.new ≡ string_bytes out.old ++ made_text (packed (length buffer.old) (content fields.now))) }
 {
     match pack(fields, buffer) {
-        Ok(end) => write_bytes(out, &buffer[0..end]),
-        Err(refusal) => write_refusal(out, refusal as u8),
+        Ok(end) => write_bytes(out, &buffer[..end]),
+        Err(refusal) => write_refusal(out, u8::from(refusal)),
     }
 }
 
 /// Appends what unpack makes of `input` in the buffer.
+// Not one generic with the one above: its contract would have to say the number of any error, and be longer than both.
 pub(crate) fn write_unpacked(
     out: &mut String,
     input: &[u8],
@@ -33,7 +34,7 @@ pub(crate) fn write_unpacked(
     ensures { OnOk result (string_bytes out.new ≡ string_bytes out.old ++ made_text (unpacked (length buffer.old) input.now)) }
 {
     match unpack(input, buffer) {
-        Ok(end) => write_bytes(out, &buffer[0..end]),
-        Err(refusal) => write_refusal(out, refusal.number()),
+        Ok(end) => write_bytes(out, &buffer[..end]),
+        Err(refusal) => write_refusal(out, u8::from(refusal)),
     }
 }

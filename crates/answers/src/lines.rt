@@ -1,24 +1,13 @@
 //! Lines of a script, answered.
 
-ghost use Rattle.std.specs.Prelude.{◌≡◌, string_bytes, OnOk};
-ghost use Rattle.answers.specs.Answering.{asks, AnswerText, Reply, Answers, Appends};
-ghost use Rattle.wire.specs.Fields.{is_request};
+ghost use Rattle.std.specs.Prelude.{string_bytes, OnOk};
+ghost use Rattle.answers.specs.Answering.{AnswerText, Reply, Answers, Appends};
 
 use crate::frames::{write_packed, write_unpacked};
 use crate::looks::write_looked;
-use script::{Command, Direction, Line, read_line};
+use script::{Command, Line, read_line};
 use std::alloc::{AllocError, Global};
-use wire::body::{Direction as Way, Fields};
-
-/// Who speaks, in the words of a frame.
-fn way(direction: Direction) -> Way
-    ensures { is_request result ≡ asks direction }
-{
-    match direction {
-        Direction::Request => Way::Request,
-        Direction::Answer => Way::Answer,
-    }
-}
+use wire::body::Fields;
 
 /// Appends the answer to a command.
 fn write_answer(heap: Global, out: &mut String, command: &Command) -> Result<(), AllocError>
@@ -34,9 +23,9 @@ fn write_answer(heap: Global, out: &mut String, command: &Command) -> Result<(),
             buffer,
             data,
         } => {
-            let mut places = vec![in heap; 0; *buffer as usize]?;
+            let mut places = vec![in heap; 0; usize::from(*buffer)]?;
             let fields = Fields {
-                direction: way(*direction),
+                direction: *direction,
                 destination: *destination,
                 source: *source,
                 command: *command,
@@ -46,7 +35,7 @@ fn write_answer(heap: Global, out: &mut String, command: &Command) -> Result<(),
             write_packed(out, &fields, places.as_mut_slice())
         }
         Command::Unpack { buffer, bytes } => {
-            let mut places = vec![in heap; 0; *buffer as usize]?;
+            let mut places = vec![in heap; 0; usize::from(*buffer)]?;
             write_unpacked(out, bytes.as_slice(), places.as_mut_slice())
         }
         Command::Look { bytes } => write_looked(out, bytes.as_slice()),
@@ -61,8 +50,7 @@ fn write_reply(heap: Global, out: &mut String, command: &Command) -> Result<(), 
     ensures { OnOk result (Appends (Reply command.now) (string_bytes out.old) (string_bytes out.new)) }
 {
     write_answer(heap, out, command)?;
-    out.push_str("\n")?;
-    Ok(())
+    out.push_str("\n")
 }
 
 /// Appends the answer to a line, and its line end; nothing for a blank line or a remark.

@@ -3,8 +3,7 @@ use Rattle.std.proofs.Common.{◌≡◌, ℕ, zero, suc, ◌-◌, ◌<◌, ◌�
 use Rattle.std.specs.Option.{option_map}
 use Rattle.std.proofs.lemmas.List.{take_rest}
 use Rattle.tokens.specs.Bytes.{bytes_of}
-use Rattle.tokens.specs.Names.{name_of}
-use Rattle.script.specs.Grammar.{Kind, Value, Body, Said, Form, body, num, silence, value_of, led, closing, body_of, said_by_any, found, calls, commands, addressed, calling, sentence, meaning_of}
+use Rattle.script.specs.Grammar.{Kind, Value, Body, body, silence, value_of, led, closing, body_of, found, commands, sentence, meaning_of}
 
 -- the words that references hold
 abbrev pub held : List (Bor (List ℕ)) → List (List ℕ)
@@ -66,10 +65,6 @@ closed (suc n) (a ∷ args) e = closed n args (omega arith)
 pub by_all : (ks : List Kind) (args : List (Bor (List ℕ))) (vs : List (Option Value)) → length args ≡ length ks → Reads args 0 vs ks → leads vs (Some (body [] [])) ≡ body_of ks false (held args)
 by_all ks args vs e r = ap (leads vs) (closed (length ks) args e) ∙ by_parts false ks args vs (omega arith) r
 
-pub one_number : (o : Option ℕ) → option_map (λ n. body (num n ∷ []) []) o ≡ leads (option_map num o ∷ []) (Some (body [] []))
-one_number None = refl
-one_number (Some n) = refl
-
 -- the first word, and the others as a pattern has them
 abbrev pub others : List (Bor (List ℕ)) → List (List ℕ)
 others args = held (take (length args - 1) (drop 1 args))
@@ -84,10 +79,6 @@ first_held (a ∷ args) h = ap (λ l. a.now ∷ held l) (take_rest (a ∷ args) 
 pub none_held : (args : List (Bor (List ℕ))) → length args < 1 → [] ≡ held args
 none_held [] h = refl
 none_held (a ∷ args) h = absurd (omega arith)
-
--- an argument before bytes
-pub by_first : (k : Kind) (args : List (Bor (List ℕ))) (v : Option Value) (p : Option (List ℕ)) → 1 ≤ length args → v ≡ value_of k (first args) → p ≡ bytes_of (others args) → led v (option_map (body []) p) ≡ body_of (k ∷ []) true (held args)
-by_first k args v p h e f = (λ i. led (e i) (option_map (body []) (f i))) ∙ ap (body_of (k ∷ []) true) (first_held args h)
 
 -- arguments before bytes
 abbrev pub tied : Option Body → Option (List ℕ) → Option Body
@@ -114,15 +105,7 @@ pub by_split : (ks : List Kind) (args head rest : List (Bor (List ℕ))) (o : Op
 by_split ks args head rest o p h a b e f =
     (λ i. tied ((e ∙ ap (λ l. body_of ks false (held l)) a) i) ((f ∙ ap (λ l. bytes_of (held l)) b) i)) ∙ split_body ks args h
 
--- a call of a name
-pub by_name : (w : List ℕ) (args : List (Bor (List ℕ))) (n : Option (List ℕ)) (f : Option Form) (s : Option Said) → 1 ≤ length args → n ≡ name_of w → f ≡ found calls (first args) → s ≡ said_by_any f (others args) → addressed n s ≡ calling w (held args)
-by_name w args n f s h e g k = (λ i. addressed (e i) ((k ∙ ap (λ x. said_by_any x (others args)) g) i)) ∙ ap (calling w) (first_held args h)
-
 -- the whole line
-pub empty_word : (w : List ℕ) → length w ≡ 0 → false ≡ eqb (get_or w 0 0) 35
-empty_word [] h = refl
-empty_word (b ∷ w) h = absurd (omega arith)
-
 pub no_words : (args : List (Bor (List ℕ))) → length args < 1 → silence ≡ meaning_of (held args)
 unfolding meaning_of
 no_words args h = ap meaning_of (none_held args h)

@@ -1,13 +1,15 @@
 -- What the commands of the program say, in the words of the grammar.
 use Rattle.std.specs.Prelude.{[], ◌∷◌, Some, None, vec_items, codes, Option}
-use Rattle.script.specs.declared.command.Direction.{Direction}
-use Rattle.script.specs.declared.command.Direction.TheVariants.{Request, Answer}
+use Rattle.wire.specs.declared.body.Direction.{Direction}
+use Rattle.wire.specs.declared.body.Direction.TheVariants.{Request, Answer}
 use Rattle.script.specs.declared.command.Call.{Call}
 use Rattle.script.specs.declared.command.Call.TheVariants.{Enrol, Strike, Ask, Switch, Wire, Fetch, Hear, GiveUp, Told, Silent, Save, Load}
 use Rattle.script.specs.declared.command.Command.{Command}
 use Rattle.script.specs.declared.command.Command.TheVariants.{Post, Pack, Unpack, Look, Same, Call as ToName}
 use Rattle.script.specs.declared.command.Line.{Line}
 use Rattle.script.specs.declared.command.Line.TheVariants.{Nothing, Unreadable, Command as Asks}
+use Rattle.script.specs.declared.reading.Question.{Question}
+use Rattle.script.specs.declared.reading.Head.{Head}
 use Rattle.script.specs.declared.reading.Verb.{Verb}
 use Rattle.script.specs.declared.reading.Verb.TheVariants as verb
 use Rattle.script.specs.declared.reading.Keyword.{Keyword}
@@ -19,6 +21,13 @@ use Rattle.script.specs.Grammar.{Form, Value, Body, Said, Meaning, num, raw, cal
 abbrev pub direction_shown : Direction → Value
 direction_shown Request = request
 direction_shown Answer = answer
+
+-- the arguments of a question, and those of a frame before its data
+abbrev pub question_shown : Question → Body
+question_shown q = body (num q.meter ∷ num q.first ∷ num q.second ∷ raw q.password ∷ num q.scratch ∷ []) []
+
+abbrev pub head_shown : Head → Body
+head_shown h = body (direction_shown h.direction ∷ num h.destination ∷ num h.source ∷ num h.command ∷ raw h.four ∷ num h.buffer ∷ []) []
 
 -- a call: its keyword, arguments and bytes
 abbrev pub call_shown : Call → Said

@@ -1,16 +1,10 @@
 //! What a line of a script may ask for.
 
 use tokens::Name;
-
-/// Which way a frame goes.
-#[derive(Clone, Copy)]
-pub enum Direction {
-    Request,
-    Answer,
-}
+use wire::body::Direction;
 
 /// A call on the post of a name.
-#[derive(Drop)]
+#[derive(Debug, PartialEq, Eq, Drop)]
 pub enum Call {
     Enrol {
         meter: u16,
@@ -55,7 +49,7 @@ pub enum Call {
     },
 }
 
-#[derive(Drop)]
+#[derive(Debug, PartialEq, Eq, Drop)]
 pub enum Command {
     Post {
         name: Name,
@@ -89,7 +83,8 @@ pub enum Command {
 }
 
 /// What a line says.
-#[derive(Drop)]
+// No `Result<Option<Command>, _>`: that a line says nothing or is unreadable is an answer like any other, and is no error.
+#[derive(Debug, PartialEq, Eq, Drop)]
 pub enum Line {
     Nothing,
     Unreadable,

@@ -4,5 +4,6 @@
 mod command;
 mod reading;
 
-pub use command::{Call, Command, Direction, Line};
+pub use command::{Call, Command, Line};
 pub use reading::read_line;
+pub use wire::body::Direction;

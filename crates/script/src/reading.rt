@@ -1,21 +1,21 @@
 //! The words of a line, read into a command.
 
-ghost use Rattle.std.specs.Prelude.{◌≡◌, ℕ, ◌≤◌, true, false, List, [], ◌∷◌, map, IfOk, MatchOption, ◌==◌, slice_index};
+ghost use Rattle.std.specs.Prelude.{◌≡◌, false, [], ◌∷◌, map, IfOk, ◌==◌, slice_index};
 ghost use Rattle.std.specs.Option.{option_map};
-ghost use Rattle.std.specs.Str.{bytes_eq};
-ghost use Rattle.script.specs.Grammar.{Kind, number, four, num, raw, body, body_of, said_by, found, calls, commands, direction_of, enrol, strike, ask, switch, wire, told, silent, save, load, post, pack, unpack, look, same, direction, commanded, calling, sentence, silence, meaning_of};
+ghost use Rattle.script.specs.Grammar.{number, four, num, body, body_of, said_by, found, calls, commands, direction_of, ask, switch, told, silent, save, post, pack, unpack, same, direction, commanded, calling, sentence, meaning_of};
 ghost use Rattle.tokens.specs.Laws.{WordsExact, NumeralsExact, DecimalBack, HexBack, PairsExact, BytesBack};
 ghost use Rattle.tokens.specs.Numerals.{numeral, up_to};
-ghost use Rattle.script.specs.Shown.{verb_form, keyword_form, direction_shown, call_shown, answered, line_shown};
+ghost use Rattle.script.specs.Shown.{verb_form, keyword_form, direction_shown, question_shown, head_shown, call_shown, answered, line_shown};
 ghost use Rattle.script.specs.Spells.{FormsExact, LinesExact};
 ghost use Rattle.tokens.specs.Words.{words as words_of};
 
-use crate::command::{Call, Command, Direction, Line};
+use crate::command::{Call, Command, Line};
 use std::alloc::{AllocError, Global};
 use tokens::{read_bytes, read_four, read_name, read_number, split_words};
+use wire::body::Direction;
 
 /// The keywords that follow a name.
-#[derive(Clone, Copy)]
+#[derive(Clone, Copy, Debug, PartialEq, Eq)]
 pub enum Verb {
     Enrol,
     Strike,
@@ -32,7 +32,7 @@ pub enum Verb {
 }
 
 /// The keywords that begin a line.
-#[derive(Clone, Copy)]
+#[derive(Clone, Copy, Debug, PartialEq, Eq)]
 pub enum Keyword {
     Post,
     Pack,
@@ -41,80 +41,82 @@ pub enum Keyword {
     Same,
 }
 
-/// Whether the word is the keyword.
-fn is(word: &[u8], keyword: &[u8]) -> bool
-    ensures { result ≡ bytes_eq keyword.now word.now }
-{
-    word == keyword
+/// What `ask` and `switch` say, in the order of the words.
+#[derive(Clone, Copy, Debug, PartialEq, Eq)]
+pub struct Question {
+    pub meter: u16,
+    pub first: u8,
+    pub second: u8,
+    pub password: [u8; 4],
+    pub scratch: u16,
 }
 
+/// What `pack` says before the data.
+#[derive(Clone, Copy, Debug, PartialEq, Eq)]
+pub struct Head {
+    pub direction: Direction,
+    pub destination: u16,
+    pub source: u16,
+    pub command: u8,
+    pub four: [u8; 4],
+    pub buffer: u16,
+}
+
+/// The keyword of a command, if the word is one.
+// No `TryFrom`: a word that is no keyword is no error, but may be a name.
 fn read_keyword(word: &[u8]) -> Option<Keyword>
     ensures { option_map keyword_form result ≡ found commands word.now }
 {
-    if is(word, b"post") {
-        Some(Keyword::Post)
-    } else if is(word, b"pack") {
-        Some(Keyword::Pack)
-    } else if is(word, b"unpack") {
-        Some(Keyword::Unpack)
-    } else if is(word, b"look") {
-        Some(Keyword::Look)
-    } else if is(word, b"same") {
-        Some(Keyword::Same)
-    } else {
-        None
+    match word {
+        b"post" => Some(Keyword::Post),
+        b"pack" => Some(Keyword::Pack),
+        b"unpack" => Some(Keyword::Unpack),
+        b"look" => Some(Keyword::Look),
+        b"same" => Some(Keyword::Same),
+        _ => None,
     }
 }
 
+/// The keyword of a call, if the word is one.
+// No `TryFrom`: that the whole line is unreadable says all that an error of this word could.
 fn read_verb(word: &[u8]) -> Option<Verb>
     ensures { option_map verb_form result ≡ found calls word.now }
 {
-    if is(word, b"enrol") {
-        Some(Verb::Enrol)
-    } else if is(word, b"strike") {
-        Some(Verb::Strike)
-    } else if is(word, b"ask") {
-        Some(Verb::Ask)
-    } else if is(word, b"switch") {
-        Some(Verb::Switch)
-    } else if is(word, b"wire") {
-        Some(Verb::Wire)
-    } else if is(word, b"fetch") {
-        Some(Verb::Fetch)
-    } else if is(word, b"hear") {
-        Some(Verb::Hear)
-    } else if is(word, b"giveup") {
-        Some(Verb::GiveUp)
-    } else if is(word, b"told") {
-        Some(Verb::Told)
-    } else if is(word, b"silent") {
-        Some(Verb::Silent)
-    } else if is(word, b"save") {
-        Some(Verb::Save)
-    } else if is(word, b"load") {
-        Some(Verb::Load)
-    } else {
-        None
+    match word {
+        b"enrol" => Some(Verb::Enrol),
+        b"strike" => Some(Verb::Strike),
+        b"ask" => Some(Verb::Ask),
+        b"switch" => Some(Verb::Switch),
+        b"wire" => Some(Verb::Wire),
+        b"fetch" => Some(Verb::Fetch),
+        b"hear" => Some(Verb::Hear),
+        b"giveup" => Some(Verb::GiveUp),
+        b"told" => Some(Verb::Told),
+        b"silent" => Some(Verb::Silent),
+        b"save" => Some(Verb::Save),
+        b"load" => Some(Verb::Load),
+        _ => None,
     }
 }
 
+/// `request` or `answer`.
+// No `TryFrom`, as above, and the type is another crate's.
 fn read_direction(word: &[u8]) -> Option<Direction>
     ensures { option_map direction_shown result ≡ direction_of word.now }
 {
-    if is(word, b"request") {
-        Some(Direction::Request)
-    } else if is(word, b"answer") {
-        Some(Direction::Answer)
-    } else {
-        None
+    match word {
+        b"request" => Some(Direction::Request),
+        b"answer" => Some(Direction::Answer),
+        _ => None,
     }
 }
 
 /// A number up to `most`.
+// Not one generic with the next: its contract would have to say which number a value of its type is, and be longer than both.
 fn read_short(word: &[u8], most: u16) -> Option<u16>
     ensures { result ≡ up_to most (numeral word.now) }
 {
-    Some(read_number(word, most as u32)? as u16)
+    Some(read_number(word, u32::from(most))? as u16)
 }
 
 /// A number of one byte.
@@ -135,18 +137,19 @@ fn read_meter(args: &[&[u8]]) -> Option<u16>
 }
 
 /// A meter, two numbers of one byte, a password and the length of the scratch.
-fn read_question(args: &[&[u8]]) -> Option<(u16, u8, u8, [u8; 4], u16)>
-    ensures { option_map (λ q. body (num q.0 ∷ num q.1 ∷ num q.2 ∷ raw q.3 ∷ num q.4 ∷ []) []) result ≡ body_of (number 65535 ∷ number 255 ∷ number 255 ∷ four ∷ number 256 ∷ []) false (map (λ w. w.now) args.now) }
+fn read_question(args: &[&[u8]]) -> Option<Question>
+    ensures { option_map question_shown result ≡ body_of (number 65535 ∷ number 255 ∷ number 255 ∷ four ∷ number 256 ∷ []) false (map (λ w. w.now) args.now) }
 {
     let [meter, first, second, password, scratch] = args else {
         return None;
     };
-    let meter = read_short(meter, 65535)?;
-    let first = read_byte(first)?;
-    let second = read_byte(second)?;
-    let password = read_four(password)?;
-    let scratch = read_short(scratch, 256)?;
-    Some((meter, first, second, password, scratch))
+    Some(Question {
+        meter: read_short(meter, 65535)?,
+        first: read_byte(first)?,
+        second: read_byte(second)?,
+        password: read_four(password)?,
+        scratch: read_short(scratch, 256)?,
+    })
 }
 
 fn read_told(args: &[&[u8]]) -> Option<Call>
@@ -155,13 +158,10 @@ fn read_told(args: &[&[u8]]) -> Option<Call>
     let [meter, slot, buffer] = args else {
         return None;
     };
-    let meter = read_short(meter, 65535)?;
-    let slot = read_byte(slot)?;
-    let buffer = read_short(buffer, 256)?;
     Some(Call::Told {
-        meter,
-        slot,
-        buffer,
+        meter: read_short(meter, 65535)?,
+        slot: read_byte(slot)?,
+        buffer: read_short(buffer, 256)?,
     })
 }
 
@@ -171,9 +171,10 @@ fn read_silent(args: &[&[u8]]) -> Option<Call>
     let [slot, list] = args else {
         return None;
     };
-    let slot = read_byte(slot)?;
-    let list = read_short(list, 1000)?;
-    Some(Call::Silent { slot, list })
+    Some(Call::Silent {
+        slot: read_byte(slot)?,
+        list: read_short(list, 1000)?,
+    })
 }
 
 fn read_save(args: &[&[u8]]) -> Option<Call>
@@ -182,14 +183,21 @@ fn read_save(args: &[&[u8]]) -> Option<Call>
     let [buffer] = args else {
         return None;
     };
-    let buffer = read_number(buffer, 70000)?;
-    Some(Call::Save { buffer })
+    Some(Call::Save {
+        buffer: read_number(buffer, 70000)?,
+    })
 }
 
 fn read_ask(args: &[&[u8]]) -> Option<Call>
     ensures { option_map call_shown result ≡ said_by ask (map (λ w. w.now) args.now) }
 {
-    let (meter, command, selector, password, scratch) = read_question(args)?;
+    let Question {
+        meter,
+        first: command,
+        second: selector,
+        password,
+        scratch,
+    } = read_question(args)?;
     Some(Call::Ask {
         meter,
         command,
@@ -202,7 +210,13 @@ fn read_ask(args: &[&[u8]]) -> Option<Call>
 fn read_switch(args: &[&[u8]]) -> Option<Call>
     ensures { option_map call_shown result ≡ said_by switch (map (λ w. w.now) args.now) }
 {
-    let (meter, relay, position, password, scratch) = read_question(args)?;
+    let Question {
+        meter,
+        first: relay,
+        second: position,
+        password,
+        scratch,
+    } = read_question(args)?;
     Some(Call::Switch {
         meter,
         relay,
@@ -212,43 +226,11 @@ fn read_switch(args: &[&[u8]]) -> Option<Call>
     })
 }
 
-fn read_enrol(args: &[&[u8]]) -> Option<Call>
-    ensures { option_map call_shown result ≡ said_by enrol (map (λ w. w.now) args.now) }
-{
-    let meter = read_meter(args)?;
-    Some(Call::Enrol { meter })
-}
-
-fn read_strike(args: &[&[u8]]) -> Option<Call>
-    ensures { option_map call_shown result ≡ said_by strike (map (λ w. w.now) args.now) }
-{
-    let meter = read_meter(args)?;
-    Some(Call::Strike { meter })
-}
-
 /// A call that takes no words.
 fn alone(call: Call, args: &[&[u8]]) -> Option<Call>
     ensures { option_map call_shown result ≡ option_map (λ _. call_shown call) (body_of [] false (map (λ w. w.now) args.now)) }
 {
-    if args.is_empty() { Some(call) } else { None }
-}
-
-fn read_wire(heap: Global, args: &[&[u8]]) -> Result<Option<Call>, AllocError>
-    ensures { IfOk result (λ o. option_map call_shown o ≡ said_by wire (map (λ w. w.now) args.now)) }
-{
-    match read_bytes(heap, args)? {
-        Some(bytes) => Ok(Some(Call::Wire { bytes })),
-        None => Ok(None),
-    }
-}
-
-fn read_load(heap: Global, args: &[&[u8]]) -> Result<Option<Call>, AllocError>
-    ensures { IfOk result (λ o. option_map call_shown o ≡ said_by load (map (λ w. w.now) args.now)) }
-{
-    match read_bytes(heap, args)? {
-        Some(bytes) => Ok(Some(Call::Load { bytes })),
-        None => Ok(None),
-    }
+    args.is_empty().then_some(call)
 }
 
 /// The call that the verb and its words make.
@@ -256,18 +238,18 @@ fn read_call(heap: Global, verb: Verb, args: &[&[u8]]) -> Result<Option<Call>, A
     ensures { IfOk result (λ o. option_map call_shown o ≡ said_by (verb_form verb) (map (λ w. w.now) args.now)) }
 {
     match verb {
-        Verb::Enrol => Ok(read_enrol(args)),
-        Verb::Strike => Ok(read_strike(args)),
+        Verb::Enrol => Ok(read_meter(args).map(|meter| Call::Enrol { meter })),
+        Verb::Strike => Ok(read_meter(args).map(|meter| Call::Strike { meter })),
         Verb::Ask => Ok(read_ask(args)),
         Verb::Switch => Ok(read_switch(args)),
-        Verb::Wire => read_wire(heap, args),
+        Verb::Wire => Ok(read_bytes(heap, args)?.map(|bytes| Call::Wire { bytes })),
         Verb::Fetch => Ok(alone(Call::Fetch, args)),
         Verb::Hear => Ok(alone(Call::Hear, args)),
         Verb::GiveUp => Ok(alone(Call::GiveUp, args)),
         Verb::Told => Ok(read_told(args)),
         Verb::Silent => Ok(read_silent(args)),
         Verb::Save => Ok(read_save(args)),
-        Verb::Load => read_load(heap, args),
+        Verb::Load => Ok(read_bytes(heap, args)?.map(|bytes| Call::Load { bytes })),
     }
 }
 
@@ -277,13 +259,10 @@ fn read_post(args: &[&[u8]]) -> Option<Command>
     let [name, meters, readings] = args else {
         return None;
     };
-    let name = read_name(name)?;
-    let meters = read_short(meters, 1000)?;
-    let readings = read_short(readings, 5000)?;
     Some(Command::Post {
-        name,
-        meters,
-        readings,
+        name: read_name(name)?,
+        meters: read_short(meters, 1000)?,
+        readings: read_short(readings, 5000)?,
     })
 }
 
@@ -293,18 +272,10 @@ fn read_same(args: &[&[u8]]) -> Option<Command>
     let [first, second] = args else {
         return None;
     };
-    let first = read_name(first)?;
-    let second = read_name(second)?;
-    Some(Command::Same { first, second })
-}
-
-fn read_look(heap: Global, args: &[&[u8]]) -> Result<Option<Command>, AllocError>
-    ensures { IfOk result (λ o. answered o ≡ commanded (said_by look (map (λ w. w.now) args.now))) }
-{
-    match read_bytes(heap, args)? {
-        Some(bytes) => Ok(Some(Command::Look { bytes })),
-        None => Ok(None),
-    }
+    Some(Command::Same {
+        first: read_name(first)?,
+        second: read_name(second)?,
+    })
 }
 
 fn read_unpack(heap: Global, args: &[&[u8]]) -> Result<Option<Command>, AllocError>
@@ -316,51 +287,52 @@ fn read_unpack(heap: Global, args: &[&[u8]]) -> Result<Option<Command>, AllocErr
     let Some(buffer) = read_short(buffer, 256) else {
         return Ok(None);
     };
-    match read_bytes(heap, bytes)? {
-        Some(bytes) => Ok(Some(Command::Unpack { buffer, bytes })),
-        None => Ok(None),
-    }
+    Ok(read_bytes(heap, bytes)?.map(|bytes| Command::Unpack { buffer, bytes }))
 }
 
 /// The words of a frame before its data.
-fn read_frame(args: &[&[u8]]) -> Option<(Direction, u16, u16, u8, [u8; 4], u16)>
-    ensures { option_map (λ f. body (direction_shown f.0 ∷ num f.1 ∷ num f.2 ∷ num f.3 ∷ raw f.4 ∷ num f.5 ∷ []) []) result ≡ body_of (direction ∷ number 65535 ∷ number 65535 ∷ number 255 ∷ four ∷ number 256 ∷ []) false (map (λ w. w.now) args.now) }
+fn read_head(args: &[&[u8]]) -> Option<Head>
+    ensures { option_map head_shown result ≡ body_of (direction ∷ number 65535 ∷ number 65535 ∷ number 255 ∷ four ∷ number 256 ∷ []) false (map (λ w. w.now) args.now) }
 {
     let [direction, destination, source, command, four, buffer] = args else {
         return None;
     };
-    let direction = read_direction(direction)?;
-    let destination = read_short(destination, 65535)?;
-    let source = read_short(source, 65535)?;
-    let command = read_byte(command)?;
-    let four = read_four(four)?;
-    let buffer = read_short(buffer, 256)?;
-    Some((direction, destination, source, command, four, buffer))
+    Some(Head {
+        direction: read_direction(direction)?,
+        destination: read_short(destination, 65535)?,
+        source: read_short(source, 65535)?,
+        command: read_byte(command)?,
+        four: read_four(four)?,
+        buffer: read_short(buffer, 256)?,
+    })
 }
 
 fn read_pack(heap: Global, args: &[&[u8]]) -> Result<Option<Command>, AllocError>
     ensures { IfOk result (λ o. answered o ≡ commanded (said_by pack (map (λ w. w.now) args.now))) }
 {
-    if args.len() < 6 {
-        return Ok(None);
-    }
-    let (head, data) = args.split_at(6);
-    let Some(frame) = read_frame(head) else {
+    let Some((head, data)) = args.split_at_checked(6) else {
         return Ok(None);
     };
-    let (direction, destination, source, command, four, buffer) = frame;
-    match read_bytes(heap, data)? {
-        Some(data) => Ok(Some(Command::Pack {
-            direction,
-            destination,
-            source,
-            command,
-            four,
-            buffer,
-            data,
-        })),
-        None => Ok(None),
-    }
+    let Some(head) = read_head(head) else {
+        return Ok(None);
+    };
+    let Head {
+        direction,
+        destination,
+        source,
+        command,
+        four,
+        buffer,
+    } = head;
+    Ok(read_bytes(heap, data)?.map(|data| Command::Pack {
+        direction,
+        destination,
+        source,
+        command,
+        four,
+        buffer,
+        data,
+    }))
 }
 
 /// The command that the keyword and its words make.
@@ -375,7 +347,7 @@ fn read_command(
         Keyword::Post => Ok(read_post(args)),
         Keyword::Pack => read_pack(heap, args),
         Keyword::Unpack => read_unpack(heap, args),
-        Keyword::Look => read_look(heap, args),
+        Keyword::Look => Ok(read_bytes(heap, args)?.map(|bytes| Command::Look { bytes })),
         Keyword::Same => Ok(read_same(args)),
     }
 }
@@ -393,17 +365,14 @@ fn read_to_name(heap: Global, first: &[u8], args: &[&[u8]]) -> Result<Option<Com
     let Some(verb) = read_verb(verb) else {
         return Ok(None);
     };
-    match read_call(heap, verb, args)? {
-        Some(call) => Ok(Some(Command::Call { name, call })),
-        None => Ok(None),
-    }
+    Ok(read_call(heap, verb, args)?.map(|call| Command::Call { name, call }))
 }
 
 /// Whether the word begins a remark.
 fn is_remark(word: &[u8]) -> bool
     ensures { result ≡ (slice_index word.now 0 == 35) }
 {
-    !word.is_empty() && word[0] == b'#'
+    matches!(word, [b'#', ..])
 }
 
 /// The first word is the keyword of a command, or a name.
@@ -416,28 +385,22 @@ fn read_sentence(heap: Global, first: &[u8], args: &[&[u8]]) -> Result<Option<Co
     }
 }
 
-/// The first word and those behind it, unless there is none or it begins a remark.
-fn spoken<'a>(words: &'a [&'a [u8]]) -> Option<(&'a [u8], &'a [&'a [u8]])>
-    ensures { MatchOption result (meaning_of (map (λ w. w.now) words.now) ≡ silence) (λ s. meaning_of (map (λ w. w.now) words.now) ≡ sentence (found commands s.0.now) s.0.now (map (λ w. w.now) s.1.now)) }
+/// What the words of a line say.
+#[tactic(auto, using(crate::proofs::Parsing::a_sentence))]
+fn read_words(heap: Global, words: &[&[u8]]) -> Result<Line, AllocError>
+    ensures { IfOk result (λ l. line_shown l ≡ meaning_of (map (λ w. w.now) words.now)) }
 {
     let [first, args @ ..] = words else {
-        return None;
+        return Ok(Line::Nothing);
     };
     if is_remark(first) {
-        None
-    } else {
-        Some((*first, args))
+        return Ok(Line::Nothing);
+    }
+    match read_sentence(heap, first, args)? {
+        Some(command) => Ok(Line::Command(command)),
+        None => Ok(Line::Unreadable),
     }
 }
-
-/// Does nothing: its contract is the laws of the grammar.
-fn grammar_laws()
-    ensures lines { LinesExact }
-    ensures forms { FormsExact }
-    ensures words { WordsExact }
-    ensures numerals { NumeralsExact × DecimalBack × HexBack }
-    ensures bytes { PairsExact × BytesBack }
-{}
 
 /// What a line of a script says; a line has no line end.
 pub fn read_line(heap: Global, line: &[u8]) -> Result<Line, AllocError>
@@ -448,13 +411,6 @@ pub fn read_line(heap: Global, line: &[u8]) -> Result<Line, AllocError>
     ensures numerals { NumeralsExact × DecimalBack × HexBack }
     ensures bytes { PairsExact × BytesBack }
 {
-    grammar_laws();
     let words = split_words(heap, line)?;
-    let Some((first, args)) = spoken(words.as_slice()) else {
-        return Ok(Line::Nothing);
-    };
-    match read_sentence(heap, first, args)? {
-        Some(command) => Ok(Line::Command(command)),
-        None => Ok(Line::Unreadable),
-    }
+    read_words(heap, words.as_slice())
 }

@@ -4,23 +4,13 @@
 #[cfg(test)]
 mod tests {
     use script::{Call, Command, Line, read_line};
-    use std::alloc::{AllocError, Global};
     use std::test::Fail;
     use text::{meaning, write_bytes, write_numbers, write_password, write_refusal, write_text};
-
-    // 0 for a line without an answer, 1 for an unreadable one, 2 for a command.
-    fn kind(heap: Global, line: &str) -> Result<u8, AllocError> {
-        match read_line(heap, line.as_bytes())? {
-            Line::Nothing => Ok(0),
-            Line::Unreadable => Ok(1),
-            Line::Command(_) => Ok(2),
-        }
-    }
 
     #[test]
     fn silent_lines(rt: HostRuntime) -> Result<(), Fail> {
         for line in ["", "  \t ", "# post a 1 1", " \t#"] {
-            assert_eq!(rt; kind(rt.alloc(), line)?, 0);
+            assert_eq!(rt; read_line(rt.alloc(), line.as_bytes())?, Line::Nothing);
         }
         Ok(())
     }
@@ -50,7 +40,7 @@ mod tests {
             "look fetch",
             "a save 70001",
         ] {
-            assert_eq!(rt; kind(rt.alloc(), line)?, 1);
+            assert_eq!(rt; read_line(rt.alloc(), line.as_bytes())?, Line::Unreadable);
         }
         Ok(())
     }
@@ -68,7 +58,7 @@ mod tests {
             "a silent 255 1000",
             "a load",
         ] {
-            assert_eq!(rt; kind(rt.alloc(), line)?, 2);
+            assert!(rt; matches!(read_line(rt.alloc(), line.as_bytes())?, Line::Command(_)));
         }
         Ok(())
     }

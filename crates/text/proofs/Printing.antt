@@ -1,25 +1,25 @@
 -- Lemmas on texts that grow.
-use Rattle.std.proofs.Common.{◌≡◌, ℕ, ◌+◌, ◌<◌, ◌≤◌, List, [], ◌∷◌, ◌++◌, length, get_or, drop, sym, ap, ◌∙◌}
-use Rattle.std.specs.List.{flat_map}
-use Rattle.std.proofs.lemmas.List.{append_assoc, append-nil, at_drop_more, at_drop_all}
-
--- one more piece of a text, and its end
-module _ {X : Type 0} (f : X → List ℕ) (xs : List X) (i : ℕ) (d : X) (old all : List ℕ) (e : old ++ flat_map f (drop i xs) ≡ all) where
-  pub wrote_more : i < length xs → (new : List ℕ) → new ≡ old ++ f (get_or xs i d) → new ++ flat_map f (drop (i + 1) xs) ≡ all
-  wrote_more h new q =
-      ap (λ l. l ++ flat_map f (drop (i + 1) xs)) q ∙ append_assoc old (f (get_or xs i d)) (flat_map f (drop (i + 1) xs)) ∙ ap (λ l. old ++ l) (sym (at_drop_more (flat_map f) xs i d h)) ∙ e
-
-  pub wrote_all : length xs ≤ i → old ≡ all
-  wrote_all h = sym (append-nil old) ∙ ap (λ l. old ++ l) (sym (at_drop_all (flat_map f) xs i h)) ∙ e
+use Rattle.std.proofs.Common.{◌≡◌, ℕ, ◌<◌, List, Some, [], ◌∷◌, ◌++◌, ap, ◌∙◌, ◌-◌, ◌/◌, ◌%◌, ◌^◌, true, false, arith}
+use Rattle.std.specs.Fmt.{digits, digit_glyph, padded_integral, format_spec, digits_output, radix_digits, styled_digits_output}
+use Rattle.std.proofs.lemmas.Fmt.{hex_byte}
+use Rattle.std.proofs.lemmas.Bool.Decides.{nat_tests}
+use Rattle.text.specs.Answers.{hex_digit, two_digits}
+use Rattle.std.proofs.lemmas.List.{append_assoc}
 
 -- a character before the rest of a piece
 pub after_one : (old mid new : List ℕ) (a : ℕ) (rest : List ℕ) → mid ≡ old ++ (a ∷ []) → new ≡ mid ++ rest → new ≡ old ++ (a ∷ rest)
 after_one old mid new a rest e f = f ∙ ap (λ l. l ++ rest) e ∙ append_assoc old (a ∷ []) rest
 
--- two characters
-pub two_pushed : (old mid new c d : List ℕ) (a b : ℕ) → mid ≡ old ++ c → c ≡ a ∷ [] → new ≡ mid ++ d → d ≡ b ∷ [] → new ≡ old ++ (a ∷ b ∷ [])
-two_pushed old mid new c d a b e f g h = after_one old mid new a (b ∷ []) (e ∙ ap (λ l. old ++ l) f) (g ∙ ap (λ l. mid ++ l) h)
-
 -- one piece after another
 pub then_more : (old mid new a b : List ℕ) → mid ≡ old ++ a → new ≡ mid ++ b → new ≡ old ++ (a ++ b)
 then_more old mid new a b e f = f ∙ ap (λ l. l ++ b) e ∙ append_assoc old a b
+
+-- the text that `{:02X}` writes of a byte
+digit_upper : (d : ℕ) → d < 16 → digit_glyph true d ≡ hex_digit d
+digit_upper d h = grind (arith, nat_tests)
+
+pair_text : (b : ℕ) → b < 256 → padded_integral (format_spec 32 0 4 2 (2 ^ 64 - 1)) false [] (digits 16 true b) ≡ two_digits b
+pair_text b h = hex_byte true b h ∙ (λ i. digit_upper (b / 16) (omega arith) i ∷ digit_upper (b % 16) (omega arith) i ∷ [])
+
+pub pair_written : (d : _) (s : _) (b : ℕ) → digits_output d ≡ Some (radix_digits 16 true b) → s ≡ format_spec 32 0 4 2 (2 ^ 64 - 1) → b < 256 → styled_digits_output d s ≡ Some (two_digits b)
+pair_written d s b e f h = rw (e, f) (ap Some (pair_text b h))

@@ -3,14 +3,11 @@
 ghost use Rattle.std.specs.Prelude.{◌≡◌, true};
 ghost use Rattle.text.specs.Phrases.{phrase, entries, apart as all_apart};
 
-/// Does nothing: its contract is the law that every number of the table has words of its own, and none has empty ones.
-fn words_differ()
-    ensures { all_apart entries ≡ true }
-{}
-
-/// What a number of a refusal or an outcome says, and nothing of any other number.
-pub(crate) fn words_for(number: u8) -> &'static str
-    ensures { result.now ≡ phrase number }
+/// What a number of a refusal or an outcome says, and nothing of any other number; no two say the same.
+// Every caller prints the words: an Option would only be turned back into the empty text.
+pub fn meaning(number: u8) -> &'static str
+    ensures words { result.now ≡ phrase number }
+    ensures apart { all_apart entries ≡ true }
 {
     match number {
         0 => "done",
@@ -49,13 +46,4 @@ pub(crate) fn words_for(number: u8) -> &'static str
         55 => "bytes follow the book",
         _ => "",
     }
-}
-
-/// What a number of a refusal or an outcome says, and nothing of any other number; no two say the same.
-pub fn meaning(number: u8) -> &'static str
-    ensures words { result.now ≡ phrase number }
-    ensures apart { all_apart entries ≡ true }
-{
-    words_differ();
-    words_for(number)
 }

@@ -1,99 +1,47 @@
 //! Answers as text.
 
-ghost use Rattle.std.specs.Prelude.{◌≡◌, ◌<◌, ◌++◌, string_bytes, codes, decimal, OnOk};
+ghost use Rattle.std.specs.Prelude.{◌≡◌, ◌++◌, string_bytes, codes, OnOk};
 ghost use Rattle.std.specs.List.{flat_map};
-ghost use Rattle.text.specs.Answers.{hex_digit, two_digits, solid_pairs, trailing_pairs, trailing_numbers, text_word, refusal};
+ghost use Rattle.text.specs.Answers.{two_digits, solid_pairs, trailing_pairs, trailing_numbers, text_word, refusal};
 
-use crate::phrases::words_for;
+use crate::phrases::meaning;
 use std::alloc::AllocError;
 use std::fmt::Write;
 
-/// The upper-case digit of a value below 16.
-fn hex_digit(value: u8) -> char
-    requires { value < 16 }
-    ensures digit { result ≡ hex_digit value }
-    ensures ascii { result < 128 }
+/// Appends a byte as two digits, behind a separator.
+#[tactic(auto, using(crate::proofs::Printing::pair_written))]
+fn write_pair(out: &mut String, separator: &str, byte: u8) -> Result<(), AllocError>
+    ensures { OnOk result (string_bytes out.new ≡ string_bytes out.old ++ (separator.now ++ two_digits byte)) }
 {
-    let code = if value < 10 {
-        b'0' + value
-    } else {
-        b'A' + (value - 10)
-    };
-    code as char
+    write!(out, "{separator}{byte:02X}")
 }
 
-/// Appends a byte as two digits.
-fn write_pair(out: &mut String, byte: u8) -> Result<(), AllocError>
-    ensures { OnOk result (string_bytes out.new ≡ string_bytes out.old ++ two_digits byte) }
-{
-    out.push(hex_digit(byte / 16))?;
-    out.push(hex_digit(byte % 16))?;
-    Ok(())
-}
-
-/// Appends bytes as pairs with nothing between them.
-fn write_solid(out: &mut String, bytes: &[u8]) -> Result<(), AllocError>
-    ensures { OnOk result (string_bytes out.new ≡ string_bytes out.old ++ solid_pairs bytes.now) }
+/// Appends bytes as pairs, each behind a separator.
+fn write_pairs(out: &mut String, separator: &str, bytes: &[u8]) -> Result<(), AllocError>
+    ensures { OnOk result (string_bytes out.new ≡ string_bytes out.old ++ flat_map (λ b. separator.now ++ two_digits b) bytes.now) }
 {
     for byte in bytes {
-        write_pair(out, *byte)?;
-    }
-    Ok(())
-}
-
-/// Appends bytes as pairs, each behind a space.
-fn write_trailing(out: &mut String, bytes: &[u8]) -> Result<(), AllocError>
-    ensures { OnOk result (string_bytes out.new ≡ string_bytes out.old ++ trailing_pairs bytes.now) }
-{
-    for byte in bytes {
-        out.push(' ')?;
-        write_pair(out, *byte)?;
-    }
-    Ok(())
-}
-
-/// Appends a word, and behind it bytes as pairs, each behind a space.
-fn write_listed(out: &mut String, word: &str, bytes: &[u8]) -> Result<(), AllocError>
-    ensures { OnOk result (string_bytes out.new ≡ string_bytes out.old ++ (word.now ++ trailing_pairs bytes.now)) }
-{
-    out.push_str(word)?;
-    write_trailing(out, bytes)?;
-    Ok(())
-}
-
-/// Appends a number in decimal, behind a separator.
-fn write_number(out: &mut String, separator: &str, number: u32) -> Result<(), AllocError>
-    ensures { OnOk result (string_bytes out.new ≡ string_bytes out.old ++ (separator.now ++ decimal number)) }
-{
-    match write!(out, "{separator}{number}") {
-        Ok(()) => Ok(()),
-        Err(_) => Err(AllocError),
-    }
-}
-
-/// Appends numbers in decimal, each behind a separator.
-fn write_separated(out: &mut String, separator: &str, numbers: &[u32]) -> Result<(), AllocError>
-    ensures { OnOk result (string_bytes out.new ≡ string_bytes out.old ++ flat_map (λ n. separator.now ++ decimal n) numbers.now) }
-{
-    for number in numbers {
-        write_number(out, separator, *number)?;
+        write_pair(out, separator, *byte)?;
     }
     Ok(())
 }
 
 /// Appends numbers in decimal, each behind a space.
+// A loop of its own beside that of the pairs: a closure for what is written of an item would be longer than the loop.
 pub fn write_numbers(out: &mut String, numbers: &[u32]) -> Result<(), AllocError>
     ensures { OnOk result (string_bytes out.new ≡ string_bytes out.old ++ trailing_numbers numbers.now) }
 {
-    write_separated(out, " ", numbers)
+    for number in numbers {
+        write!(out, " {number}")?;
+    }
+    Ok(())
 }
 
 /// Appends four bytes as eight digits.
 pub fn write_password(out: &mut String, password: [u8; 4]) -> Result<(), AllocError>
     ensures { OnOk result (string_bytes out.new ≡ string_bytes out.old ++ solid_pairs password) }
 {
-    write_solid(out, &password)?;
-    Ok(())
+    write_pairs(out, "", &password)
 }
 
 /// Appends a text of bytes as one word: its pairs, or `-` where it has none.
@@ -101,27 +49,24 @@ pub fn write_text(out: &mut String, text: &[u8]) -> Result<(), AllocError>
     ensures { OnOk result (string_bytes out.new ≡ string_bytes out.old ++ text_word text.now) }
 {
     if text.is_empty() {
-        out.push('-')?;
+        out.push('-')
     } else {
-        write_solid(out, text)?;
+        write_pairs(out, "", text)
     }
-    Ok(())
 }
 
 /// Appends `refused N (MEANING)`.
 pub fn write_refusal(out: &mut String, number: u8) -> Result<(), AllocError>
     ensures { OnOk result (string_bytes out.new ≡ string_bytes out.old ++ refusal number) }
 {
-    let words = words_for(number);
-    match write!(out, "refused {number} ({words})") {
-        Ok(()) => Ok(()),
-        Err(_) => Err(AllocError),
-    }
+    let words = meaning(number);
+    write!(out, "refused {number} ({words})")
 }
 
 /// Appends `bytes HEX`, or `bytes` alone where there are none.
 pub fn write_bytes(out: &mut String, bytes: &[u8]) -> Result<(), AllocError>
     ensures { OnOk result (string_bytes out.new ≡ string_bytes out.old ++ (codes "bytes" ++ trailing_pairs bytes.now)) }
 {
-    write_listed(out, "bytes", bytes)
+    out.push_str("bytes")?;
+    write_pairs(out, " ", bytes)
 }

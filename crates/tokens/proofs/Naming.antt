@@ -1,29 +1,30 @@
 -- Lemmas on names.
-use Rattle.std.proofs.Common.{◌≡◌, ℕ, suc, ◌+◌, ◌-◌, ◌<◌, ◌≤◌, true, false, cond, ◌&&◌, List, [], ◌∷◌, ◌++◌, length, get_or, take, drop, set, replicate, Some, None, sym, ap, ◌∙◌, arith}
-use Rattle.std.proofs.lemmas.List.{append_assoc, take_more, take_all, set_at, length-take-le, at_drop_more, at_drop_all}
-use Rattle.tokens.specs.Names.{letter, all_letters}
+use Rattle.std.proofs.Common.{◌≡◌, ℕ, ◌<◌, ◌≤◌, true, false, ◌&&◌, ltb, leb, List, [], ◌∷◌, ◌++◌, length, drop, replicate, Some, None, refl, ap, ◌∙◌, arith}
+use Rattle.std.specs.List.{AllWithin, HoldsAt, list_all}
+use Rattle.std.proofs.lemmas.List.{drop-replicate}
+use Rattle.std.proofs.lemmas.List.Folds.{list_all_at}
+use Rattle.std.proofs.lemmas.List.Sums.{list_all-from_AllPass}
+use Rattle.std.proofs.lemmas.Bool.{lt-ltb, le-leb}
+use Rattle.tokens.specs.Names.{letter, all_letters, name_of}
 
-pub letters_more : (w old : List ℕ) (i : ℕ) → i < length w → length w ≤ 16 → old ≡ take i w ++ replicate (16 - i) 0 → set old i (get_or w i 0) ≡ take (i + 1) w ++ replicate (16 - (i + 1)) 0
-letters_more w old i h s e =
-    let n : 16 - i ≡ suc (16 - (i + 1)) = omega arith in
-    let t = replicate (16 - (i + 1)) 0 in
-    ap (λ l. set l i (get_or w i 0)) (e ∙ ap (λ k. take i w ++ replicate k 0) n) ∙ set_at (take i w) 0 t (get_or w i 0) i (length-take-le i w (omega arith)) ∙ sym (ap (λ l. l ++ t) (take_more w i 0 h) ∙ append_assoc (take i w) (get_or w i 0 ∷ []) t)
+letters_all : (w : List ℕ) → all_letters w ≡ list_all letter w
+letters_all [] = refl
+letters_all (b ∷ w) = ap (λ t. letter b && t) (letters_all w)
 
-module _ (w : List ℕ) (i : ℕ) (h : i < length w) (e : all_letters (drop i w) ≡ all_letters w) where
-  step : all_letters w ≡ (letter (get_or w i 0) && all_letters (drop (i + 1) w))
-  step = sym e ∙ at_drop_more all_letters w i 0 h
+pub all_are : (w : List ℕ) → AllWithin (λ b. letter b ≡ true) w 0 (length w) → all_letters w ≡ true
+all_are w h = letters_all w ∙ list_all-from_AllPass letter w (λ k d l. h k d (omega arith) l)
 
-  pub all_more : true ≡ letter (get_or w i 0) → all_letters (drop (i + 1) w) ≡ all_letters w
-  all_more t = sym (step ∙ ap (λ b. b && all_letters (drop (i + 1) w)) (sym t))
+pub some_is_not : (w : List ℕ) (k : ℕ) → k < length w → HoldsAt (λ b. letter b ≡ false) w k → all_letters w ≡ false
+some_is_not w k l h = letters_all w ∙ list_all_at letter w k 0 l (h 0)
 
-  pub all_not : false ≡ letter (get_or w i 0) → all_letters w ≡ false
-  all_not t = step ∙ ap (λ b. b && all_letters (drop (i + 1) w)) (sym t)
+pub no_name : (w : List ℕ) → 0 < length w → length w ≤ 16 → all_letters w ≡ false → None ≡ name_of w
+no_name w h l e =
+    let s : ltb 0 (length w) ≡ true = lt-ltb _ _ h in
+    let t : leb (length w) 16 ≡ true = le-leb _ _ l in
+    rw (s, t, e)
 
--- the word with zeros behind it, where it is all letters
-pub no_name : (w : List ℕ) → all_letters w ≡ false → None ≡ cond (all_letters w) (Some (w ++ replicate (16 - length w) 0)) None
-no_name w e = rw e
-
-pub some_name : (w letters : List ℕ) (i : ℕ) → i ≡ length w → letters ≡ take i w ++ replicate (16 - i) 0 → all_letters (drop i w) ≡ all_letters w → Some letters ≡ cond (all_letters w) (Some (w ++ replicate (16 - length w) 0)) None
-some_name w letters i q e a =
-    let b : all_letters w ≡ true = sym a ∙ at_drop_all all_letters w i (omega arith) in
-    rw b (ap Some (e ∙ ap (λ k. take k w ++ replicate (16 - k) 0) q ∙ ap (λ l. l ++ replicate (16 - length w) 0) (take_all (length w) w (omega arith))))
+pub named : (w letters : List ℕ) → 0 < length w → length w ≤ 16 → all_letters w ≡ true → letters ≡ w → Some (letters ++ drop (length w) (replicate 16 0)) ≡ name_of w
+named w letters h l e q =
+    let s : ltb 0 (length w) ≡ true = lt-ltb _ _ h in
+    let t : leb (length w) 16 ≡ true = le-leb _ _ l in
+    rw (s, t, e) (λ i. Some (q i ++ drop-replicate (length w) 16 0 i))

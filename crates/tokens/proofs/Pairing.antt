@@ -1,37 +1,13 @@
 -- Lemmas on bytes as pairs of hexadecimal digits.
-use Rattle.std.proofs.Common.{◌≡◌, ℕ, ◌+◌, ◌-◌, ◌<◌, ◌≤◌, Bool, true, false, cond, List, [], ◌∷◌, ◌++◌, map, length, get_or, take, drop, Some, None, Option, sym, refl, ap, ◌∙◌, arith}
-use Rattle.std.proofs.lemmas.List.{append_assoc, append-nil, take_rest, at_drop_more, at_drop_all}
+use Rattle.std.proofs.Common.{◌≡◌, ℕ, ◌+◌, ◌-◌, ◌<◌, ◌≤◌, List, [], ◌∷◌, ◌++◌, map, length, get_or, take, drop, Some, None, Option, sym, refl, ap, ◌∙◌, arith}
+use Rattle.std.proofs.lemmas.List.{append_assoc, take_rest, at_drop_more}
 use Rattle.tokens.specs.Bytes.{pair, before, pairs, behind, joined_to, bytes_of}
-
--- eight digits are four pairs
-four_is : (w : List ℕ) → length w ≡ 8 → pairs w ≡ before (pair (get_or w 0 0) (get_or w 1 0)) (before (pair (get_or w 2 0) (get_or w 3 0)) (before (pair (get_or w 4 0) (get_or w 5 0)) (before (pair (get_or w 6 0) (get_or w 7 0)) (Some []))))
-four_is [] e = absurd (omega arith)
-four_is (a ∷ []) q = absurd (omega arith)
-four_is (a ∷ b ∷ []) q = absurd (omega arith)
-four_is (a ∷ b ∷ c ∷ []) q = absurd (omega arith)
-four_is (a ∷ b ∷ c ∷ d ∷ []) q = absurd (omega arith)
-four_is (a ∷ b ∷ c ∷ d ∷ e ∷ []) q = absurd (omega arith)
-four_is (a ∷ b ∷ c ∷ d ∷ e ∷ f ∷ []) q = absurd (omega arith)
-four_is (a ∷ b ∷ c ∷ d ∷ e ∷ f ∷ g ∷ []) q = absurd (omega arith)
-four_is (a ∷ b ∷ c ∷ d ∷ e ∷ f ∷ g ∷ h ∷ []) q = refl
-four_is (a ∷ b ∷ c ∷ d ∷ e ∷ f ∷ g ∷ h ∷ i ∷ w) q = absurd (omega arith)
-
-pub four_by : (w : List ℕ) (p q r s : Option ℕ) → length w ≡ 8 → p ≡ pair (get_or w 0 0) (get_or w 1 0) → q ≡ pair (get_or w 2 0) (get_or w 3 0) → r ≡ pair (get_or w 4 0) (get_or w 5 0) → s ≡ pair (get_or w 6 0) (get_or w 7 0) → before p (before q (before r (before s (Some [])))) ≡ pairs w
-four_by w p q r s h e f g k = rw (e, f, g, k) (sym (four_is w h))
 
 -- the first pair of a word, and the rest as the pattern has it
 pub pairs_more : (w : List ℕ) → 2 ≤ length w → pairs w ≡ before (pair (get_or w 0 0) (get_or w 1 0)) (pairs (take (length w - 2) (drop 2 w)))
 pairs_more [] h = absurd (omega arith)
 pairs_more (a ∷ []) h = absurd (omega arith)
 pairs_more (a ∷ b ∷ w) h = ap (λ ds. before (pair a b) (pairs ds)) (sym (take_rest (a ∷ b ∷ w) 2))
-
--- a word of fewer than two digits
-pub pairs_end : (w : List ℕ) (t : Bool) → length w < 2 → (t ≡ true → length w ≡ 0) → (t ≡ false → length w ≡ 0 → ⊥) → (xs : List ℕ) → cond t (Some xs) None ≡ behind xs (pairs w)
-pairs_end [] true h y n xs = ap Some (sym (append-nil xs))
-pairs_end [] false h y n xs = absurd (n refl refl)
-pairs_end (a ∷ []) true h y n xs = absurd (omega (arith, y refl))
-pairs_end (a ∷ []) false h y n xs = refl
-pairs_end (a ∷ b ∷ w) t h y n xs = absurd (omega arith)
 
 behind_more : (xs : List ℕ) (b : ℕ) (o : Option (List ℕ)) → behind (xs ++ b ∷ []) o ≡ behind xs (before (Some b) o)
 behind_more xs b None = refl
@@ -40,9 +16,6 @@ behind_more xs b (Some ys) = ap Some (append_assoc xs (b ∷ []) ys)
 pub pushed_pair : (xs ys w : List ℕ) (b : ℕ) (all : Option (List ℕ)) → 2 ≤ length w → Some b ≡ pair (get_or w 0 0) (get_or w 1 0) → ys ≡ xs ++ b ∷ [] → behind xs (pairs w) ≡ all → behind ys (pairs (take (length w - 2) (drop 2 w))) ≡ all
 pushed_pair xs ys w b all h e q a =
     ap (λ l. behind l (pairs (take (length w - 2) (drop 2 w)))) q ∙ behind_more xs b (pairs (take (length w - 2) (drop 2 w))) ∙ ap (λ o. behind xs (before o (pairs (take (length w - 2) (drop 2 w))))) e ∙ ap (behind xs) (sym (pairs_more w h)) ∙ a
-
-pub bad_pair : (xs w : List ℕ) (all : Option (List ℕ)) → 2 ≤ length w → None ≡ pair (get_or w 0 0) (get_or w 1 0) → behind xs (pairs w) ≡ all → None ≡ all
-bad_pair xs w all h e a = ap (λ o. behind xs (before o (pairs (take (length w - 2) (drop 2 w))))) e ∙ ap (behind xs) (sym (pairs_more w h)) ∙ a
 
 behind_behind : (xs ys : List ℕ) (o : Option (List ℕ)) → behind (xs ++ ys) o ≡ behind xs (behind ys o)
 behind_behind xs ys None = refl
@@ -62,11 +35,8 @@ module _ {R : Type 0} (f : R → List ℕ) (ws : List R) (i : ℕ) (d : R) (xs :
   first_of : i < length ws → behind xs (joined_to (pairs (f (get_or ws i d))) (bytes_of (map f (drop (i + 1) ws)))) ≡ all
   first_of h = ap (behind xs) (sym (at_drop_more (λ l. bytes_of (map f l)) ws i d h)) ∙ e
 
-  pub bytes_bad : i < length ws → (t : Bool) (ys : List ℕ) → t ≡ false → cond t (Some ys) None ≡ behind xs (pairs (f (get_or ws i d))) → None ≡ all
-  bytes_bad h t ys n q = word_bad xs _ _ (ap (λ b. cond b (Some ys) None) (sym n) ∙ q) ∙ first_of h
+  pub bytes_bad : i < length ws → None ≡ behind xs (pairs (f (get_or ws i d))) → None ≡ all
+  bytes_bad h q = word_bad xs _ _ q ∙ first_of h
 
-  pub bytes_more : i < length ws → (t : Bool) (ys : List ℕ) → t ≡ true → cond t (Some ys) None ≡ behind xs (pairs (f (get_or ws i d))) → behind ys (bytes_of (map f (drop (i + 1) ws))) ≡ all
-  bytes_more h t ys n q = word_whole xs ys _ (bytes_of (map f (drop (i + 1) ws))) (ap (λ b. cond b (Some ys) None) (sym n) ∙ q) ∙ first_of h
-
-  pub bytes_all : length ws ≤ i → Some xs ≡ all
-  bytes_all h = ap Some (sym (append-nil xs)) ∙ ap (behind xs) (sym (at_drop_all (λ l. bytes_of (map f l)) ws i h)) ∙ e
+  pub bytes_more : i < length ws → (ys : List ℕ) → Some ys ≡ behind xs (pairs (f (get_or ws i d))) → behind ys (bytes_of (map f (drop (i + 1) ws))) ≡ all
+  bytes_more h ys q = word_whole xs ys _ (bytes_of (map f (drop (i + 1) ws))) q ∙ first_of h

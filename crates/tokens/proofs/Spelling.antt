@@ -1,9 +1,9 @@
 -- Lemmas on numerals.
-use Rattle.std.proofs.Common.{◌≡◌, ℕ, ◌+◌, ◌-◌, ◌*◌, ◌<◌, ◌≤◌, true, false, eqb, ltb, leb, List, [], ◌∷◌, length, get_or, take, drop, Some, None, Option, sym, refl, ap, ◌∙◌, ⊎_elim, arith}
+use Rattle.std.proofs.Common.{◌≡◌, ℕ, ◌+◌, ◌-◌, ◌*◌, ◌<◌, ◌≤◌, true, false, eqb, ltb, leb, List, [], ◌∷◌, length, get_or, take, drop, None, Option, sym, ap, ◌∙◌, ⊎_elim, arith}
 use Rattle.std.specs.Char.{digit_value}
 use Rattle.std.proofs.lemmas.Nat.{mul-le}
-use Rattle.std.proofs.lemmas.List.{drop_more, drop_all, take_rest}
-use Rattle.std.proofs.lemmas.Bool.{cases_lt, lt-ltb, le-ltb, le-leb, lt-leb, eq-eqb, ne_eqb, and_right}
+use Rattle.std.proofs.lemmas.List.{drop_more, take_rest}
+use Rattle.std.proofs.lemmas.Bool.{cases_lt, lt-ltb, le-ltb, lt-leb, eq-eqb, ne_eqb, and_right}
 use Rattle.tokens.specs.Numerals.{onward, digits_in, hexed, numeral, up_to}
 
 pub onward_more : (base n d : ℕ) (ds : List ℕ) → digit_value d < base → onward base n (d ∷ ds) ≡ onward base (n * base + digit_value d) ds
@@ -21,27 +21,13 @@ past most base n (d ∷ ds) p h =
     (λ (l : base ≤ digit_value d). ap (up_to most) (onward_none base n d ds l))
     (cases_lt (digit_value d) base)
 
-pub some_digits : (base : ℕ) (ds : List ℕ) → 0 < length ds → digits_in base ds ≡ onward base 0 ds
-some_digits base [] h = absurd (omega arith)
-some_digits base (d ∷ ds) h = refl
-
-pub no_digits : (base : ℕ) (ds : List ℕ) → length ds ≡ 0 → digits_in base ds ≡ None
-no_digits base [] h = refl
-no_digits base (d ∷ ds) h = absurd (omega arith)
-
 -- the steps of the loop
 module _ (most base n i : ℕ) (ds : List ℕ) (all : Option ℕ) (e : onward base n (drop i ds) ≡ all) where
-  pub step_bad : i < length ds → base ≤ digit_value (get_or ds i 0) → up_to most all ≡ None
-  step_bad h l = ap (up_to most) (sym e ∙ ap (onward base n) (drop_more ds i 0 h) ∙ onward_none base n (get_or ds i 0) (drop (i + 1) ds) l)
-
   pub step_more : i < length ds → digit_value (get_or ds i 0) < base → onward base (n * base + digit_value (get_or ds i 0)) (drop (i + 1) ds) ≡ all
   step_more h l = sym (onward_more base n (get_or ds i 0) (drop (i + 1) ds) l) ∙ sym (ap (onward base n) (drop_more ds i 0 h)) ∙ e
 
   pub step_past : i < length ds → digit_value (get_or ds i 0) < base → 0 < base → most < n * base + digit_value (get_or ds i 0) → up_to most all ≡ None
   step_past h l p q = ap (up_to most) (sym (step_more h l)) ∙ past most base (n * base + digit_value (get_or ds i 0)) (drop (i + 1) ds) p q
-
-  pub step_end : length ds ≤ i → n ≤ most → up_to most all ≡ Some n
-  step_end h l = ap (up_to most) (sym e ∙ ap (onward base n) (drop_all i ds h)) ∙ (let t : leb n most ≡ true = le-leb _ _ l in rw t)
 
 -- which digits a word is read by
 pub hex_word : (w : List ℕ) → get_or w 0 0 ≡ 48 → get_or w 1 0 ≡ 120 → numeral w ≡ digits_in 16 (take (length w - 2) (drop 2 w))

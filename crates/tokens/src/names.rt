@@ -1,34 +1,13 @@
 //! Names of posts.
 
-ghost use Rattle.std.specs.Prelude.{◌≡◌, ◌-◌, ◌≤◌, ◌++◌, length, replicate, if◌then◌else◌, Some, None};
+ghost use Rattle.std.specs.Prelude.{◌≡◌};
 ghost use Rattle.std.specs.Option.{option_map};
-ghost use Rattle.tokens.specs.Names.{letter, all_letters, name_of, letters_of};
+ghost use Rattle.tokens.specs.Names.{name_of, letters_of};
 
 /// The name of a post: 1 to 16 letters a to z, with zeros behind them.
-#[derive(Clone, Copy)]
+#[derive(Clone, Copy, Debug, PartialEq, Eq)]
 pub struct Name {
     pub letters: [u8; 16],
-}
-
-fn is_letter(byte: u8) -> bool
-    ensures { result ≡ letter byte }
-{
-    byte >= b'a' && byte <= b'z'
-}
-
-/// The word with zeros behind it, where it is all letters.
-fn padded(word: &[u8]) -> Option<[u8; 16]>
-    requires { length word.now ≤ 16 }
-    ensures { result ≡ (if all_letters word.now then Some (word.now ++ replicate (16 - length word.now) 0) else None) }
-{
-    let mut letters = [0; 16];
-    for i in 0..word.len() {
-        if !is_letter(word[i]) {
-            return None;
-        }
-        letters[i] = word[i];
-    }
-    Some(letters)
 }
 
 /// The name that the word is.
@@ -38,6 +17,10 @@ pub fn read_name(word: &[u8]) -> Option<Name>
     if word.is_empty() || word.len() > 16 {
         return None;
     }
-    let letters = padded(word)?;
+    if !word.iter().all(|byte| byte.is_ascii_lowercase()) {
+        return None;
+    }
+    let mut letters = [0; 16];
+    letters[..word.len()].copy_from_slice(word);
     Some(Name { letters })
 }

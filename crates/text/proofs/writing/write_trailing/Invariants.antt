@@ -1,6 +1,0 @@
-use Rattle.std.proofs.Common.{◌≡◌, ◌++◌, drop, string_bytes}
-use Rattle.text.specs.Answers.{trailing_pairs}
-use Rattle.text.proofs.writing.write_trailing.Given as goal
-
-abbrev pub invariant-loop-byte : goal.invariant-loop-byte
-invariant-loop-byte x = string_bytes x.out ++ trailing_pairs (drop x.byte-index x.bytes) ≡ string_bytes x.initial.out ++ trailing_pairs x.bytes
