@@ -1,4 +1,5 @@
-//! Bodies, looked at for a script.
+//! Bodies, looked at for a script. The words are the console's and no `Display` of the types, which are the board's and format nothing; a type
+//! around each of them, made for that, would be longer than its function here.
 
 ghost use Rattle.std.specs.Prelude.{◌≡◌, ℕ, List, [], ◌∷◌, ◌++◌, string_bytes, codes, OnOk};
 ghost use Rattle.answers.specs.Spoken.{counted, selector_text, question_text, counters_numbers, answer_text, look_text, LookText};

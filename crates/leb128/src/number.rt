@@ -82,6 +82,7 @@ pub fn number_size(n: u32) -> usize
     }
 }
 
+// Buffer and place stay two parameters of each writer: a struct around them would hold the loan of the buffer between a caller's writes.
 /// Writes a number at `at`, where it fits.
 fn write_groups(out: &mut [u8], at: usize, n: u32)
     requires { at + length (number_form n) ≤ length out.old }

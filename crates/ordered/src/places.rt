@@ -1,4 +1,5 @@
-//! Records at the front of places, in the order of their keys.
+//! Records at the front of places, in the order of their keys. The functions take a table's fields and are no methods of it, since its
+//! facts do not hold while records move.
 
 ghost use Rattle.std.specs.Prelude.{◌≡◌, ℕ, ◌+◌, ◌-◌, ◌<◌, ◌≤◌, true, length, take, Err, slice_index_or, slice_set};
 ghost use Rattle.ordered.specs.Ranks.{Located, found, within, without};

@@ -21,12 +21,11 @@ pub struct Table<'a, R: Keyed> {
 }
 
 impl<'a, R: Keyed> Table<'a, R> {
-    ghost use Rattle.ordered.specs.Tables.{State, state_of, records, room, Sound, holding, Puts, FindsPut, FindsRest};
+    ghost use Rattle.ordered.specs.Tables.{State, state_of, records, room, holding, Puts, FindsPut, FindsRest};
 
     /// An empty table over the caller's places, of which the first `limit` count.
     pub fn new(places: &'a mut [R], limit: usize) -> Table<'a, R>
         ensures state { state_of result ≡ record { places = places.entry.now; limit = limit; held = 0 } }
-        ensures sound { Sound R.Keyed.place (state_of result) }
         ensures same { result.places.ghost_name ≡ places.entry.ghost_name }
     {
         Table {
@@ -80,7 +79,7 @@ impl<'a, R: Keyed> Table<'a, R> {
 
     /// The record with the key.
     pub fn find(&self, key: &R::Id) -> Option<R>
-        ensures { Sound R.Keyed.place (state_of self.now) → result ≡ found R.Keyed.place (R.Id.Key.rank key.now) (records (state_of self.now)) }
+        ensures { result ≡ found R.Keyed.place (R.Id.Key.rank key.now) (records (state_of self.now)) }
     {
         find(self.as_slice(), key)
     }
@@ -89,7 +88,6 @@ impl<'a, R: Keyed> Table<'a, R> {
     pub fn put(&mut self, item: R) -> Result<(), Full>
         ensures puts { Puts R.Keyed.place item (state_of self.old) result (state_of self.new) }
         ensures finds { FindsPut R.Keyed.place item (state_of self.old) result (state_of self.new) }
-        ensures sound { Sound R.Keyed.place (state_of self.new) }
         ensures same { self.new.places.ghost_name ≡ self.old.places.ghost_name }
     {
         let (limit, held) = (self.limit, self.held);
@@ -101,7 +99,6 @@ impl<'a, R: Keyed> Table<'a, R> {
     pub fn append(&mut self, item: R) -> Result<(), Full>
         ensures puts { Puts R.Keyed.place item (state_of self.old) result (state_of self.new) }
         ensures finds { FindsPut R.Keyed.place item (state_of self.old) result (state_of self.new) }
-        ensures sound { Sound R.Keyed.place (state_of self.new) }
         ensures same { self.new.places.ghost_name ≡ self.old.places.ghost_name }
     {
         let (limit, held) = (self.limit, self.held);
@@ -114,7 +111,6 @@ impl<'a, R: Keyed> Table<'a, R> {
         ensures held { result ≡ is_some (found R.Keyed.place (R.Id.Key.rank key.now) (records (state_of self.old))) }
         ensures left { state_of self.new ≡ holding (without R.Keyed.place (R.Id.Key.rank key.now) (R.Id.Key.rank key.now) (records (state_of self.old))) (state_of self.old) }
         ensures finds { FindsRest R.Keyed.place (R.Id.Key.rank key.now) (R.Id.Key.rank key.now) (state_of self.old) (state_of self.new) }
-        ensures sound { Sound R.Keyed.place (state_of self.new) }
         ensures same { self.new.places.ghost_name ≡ self.old.places.ghost_name }
     {
         let held = self.held;
@@ -127,7 +123,6 @@ impl<'a, R: Keyed> Table<'a, R> {
     pub fn remove_range(&mut self, first: &R::Id, last: &R::Id)
         ensures left { state_of self.new ≡ holding (without R.Keyed.place (R.Id.Key.rank first.now) (R.Id.Key.rank last.now) (records (state_of self.old))) (state_of self.old) }
         ensures finds { FindsRest R.Keyed.place (R.Id.Key.rank first.now) (R.Id.Key.rank last.now) (state_of self.old) (state_of self.new) }
-        ensures sound { Sound R.Keyed.place (state_of self.new) }
         ensures same { self.new.places.ghost_name ≡ self.old.places.ghost_name }
     {
         let held = self.held;
@@ -137,7 +132,6 @@ impl<'a, R: Keyed> Table<'a, R> {
     /// Removes every record.
     pub fn clear(&mut self)
         ensures left { state_of self.new ≡ holding [] (state_of self.old) }
-        ensures sound { Sound R.Keyed.place (state_of self.new) }
         ensures same { self.new.places.ghost_name ≡ self.old.places.ghost_name }
     {
         self.held = 0;
