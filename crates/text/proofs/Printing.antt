@@ -6,10 +6,6 @@ use Rattle.std.proofs.lemmas.Bool.Decides.{nat_tests}
 use Rattle.text.specs.Answers.{hex_digit, two_digits}
 use Rattle.std.proofs.lemmas.List.{append_assoc}
 
--- a character before the rest of a piece
-pub after_one : (old mid new : List ℕ) (a : ℕ) (rest : List ℕ) → mid ≡ old ++ (a ∷ []) → new ≡ mid ++ rest → new ≡ old ++ (a ∷ rest)
-after_one old mid new a rest e f = f ∙ ap (λ l. l ++ rest) e ∙ append_assoc old (a ∷ []) rest
-
 -- one piece after another
 pub then_more : (old mid new a b : List ℕ) → mid ≡ old ++ a → new ≡ mid ++ b → new ≡ old ++ (a ++ b)
 then_more old mid new a b e f = f ∙ ap (λ l. l ++ b) e ∙ append_assoc old a b
