@@ -23,7 +23,7 @@ fn push_pairs(mut bytes: Vec<u8>, word: &[u8]) -> Result<Option<Vec<u8>>, AllocE
     let mut rest = word;
     while let [high, low, after @ ..] = rest {
         let Some(byte) = pair(*high, *low) else {
-            return Ok(None);
+            break;
         };
         bytes.push(byte)?;
         rest = after;

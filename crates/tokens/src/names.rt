@@ -2,12 +2,18 @@
 
 ghost use Rattle.std.specs.Prelude.{◌≡◌};
 ghost use Rattle.std.specs.Option.{option_map};
-ghost use Rattle.tokens.specs.Names.{name_of, letters_of};
+ghost use Rattle.tokens.specs.Names.{letter, name_of, letters_of};
 
 /// The name of a post: 1 to 16 letters a to z, with zeros behind them.
 #[derive(Clone, Copy, Debug, PartialEq, Eq)]
 pub struct Name {
     pub letters: [u8; 16],
+}
+
+fn is_letter(byte: u8) -> bool
+    ensures { result ≡ letter byte }
+{
+    byte.is_ascii_lowercase()
 }
 
 /// The name that the word is.
@@ -17,7 +23,7 @@ pub fn read_name(word: &[u8]) -> Option<Name>
     if word.is_empty() || word.len() > 16 {
         return None;
     }
-    if !word.iter().all(|byte| byte.is_ascii_lowercase()) {
+    if !word.iter().all(|byte| is_letter(*byte)) {
         return None;
     }
     let mut letters = [0; 16];
