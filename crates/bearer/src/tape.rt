@@ -1,8 +1,7 @@
 //! The tape: a bearer that reads a capture and writes a buffer, both the caller's.
 
-ghost use Rattle.std.specs.Prelude.{◌≡◌, ℕ, ◌-◌, ◌≤◌, min, [], length};
+ghost use Rattle.std.specs.Prelude.{◌≡◌, ◌-◌, ◌≤◌, [], length};
 ghost use Rattle.bearer.specs.Lines.{Takes, Sends, after_send, exact_fall};
-ghost use Rattle.bearer.specs.Tapes.{output, tape_line, written_at, Leaves};
 
 use crate::{Bearer, NoRoom};
 
@@ -13,8 +12,8 @@ pub struct Tape<'a> {
     capture: &'a [u8],
     at: usize,
     out: &'a mut [u8],
-    // At most the length of `out`; no ghost field says so, as the checker covers none beside a `&mut`.
     written: usize,
+    ghost fits: { written ≤ length out.now },
 }
 
 /// Copies `bytes` into as many places.
@@ -26,6 +25,8 @@ fn copy(places: &mut [u8], bytes: &[u8])
 }
 
 impl<'a> Tape<'a> {
+    ghost use Rattle.bearer.specs.Tapes.{output, tape_line, written_at, Leaves};
+
     /// A tape at the beginning of the capture and of the buffer.
     pub fn new(capture: &'a [u8], out: &'a mut [u8]) -> Tape<'a>
         ensures line { tape_line result ≡ record { waiting = capture.now; sent = []; room = length out.old } }
@@ -41,13 +42,13 @@ impl<'a> Tape<'a> {
     }
 
     /// Writes the bytes from the first unwritten place on.
-    fn write(&mut self, start: usize, bytes: &[u8])
-        requires start { start ≡ min self.old.written (length (output self.old)) }
-        requires room { length bytes.now ≤ length (output self.old) - self.old.written }
+    fn write(&mut self, bytes: &[u8])
+        requires { length bytes.now ≤ length (output self.old) - self.old.written }
         ensures sent { tape_line self.new ≡ after_send exact_fall bytes.now (tape_line self.old) }
         ensures output { output self.new ≡ written_at (length (tape_line self.old).sent) bytes.now (output self.old) }
         ensures same { self.new.out.ghost_name ≡ self.old.out.ghost_name }
     {
+        let start = self.written;
         let end = start + bytes.len();
         copy(&mut self.out[start..end], bytes);
         self.written = end;
@@ -55,6 +56,8 @@ impl<'a> Tape<'a> {
 }
 
 impl<'a> Bearer for Tape<'a> {
+    ghost use Rattle.bearer.specs.Tapes.{output, tape_line, written_at, Leaves};
+
     ghost state = { tape_line };
 
     fn next(&mut self) -> Option<u8>
@@ -75,12 +78,11 @@ impl<'a> Bearer for Tape<'a> {
         if bytes.len() > self.room() {
             return Err(NoRoom);
         }
-        let start = self.written.min(self.out.len());
-        self.write(start, bytes);
+        self.write(bytes);
         Ok(())
     }
 
     fn room(&self) -> usize {
-        self.out.len().saturating_sub(self.written)
+        self.out.len() - self.written
     }
 }
