@@ -42,6 +42,7 @@ impl<'a> Tape<'a> {
     }
 
     /// Writes the bytes from the first unwritten place on.
+    #[tactic(auto, using(crate::proofs::Tapes::sent_more, crate::proofs::Tapes::whole, crate::proofs::Tapes::room_less))]
     fn write(&mut self, bytes: &[u8])
         requires { length bytes.now ≤ length (output self.old) - self.old.written }
         ensures sent { tape_line self.new ≡ after_send exact_fall bytes.now (tape_line self.old) }
