@@ -1,6 +1,6 @@
 //! The cable: a bearer whose far side is in the hands of the program.
 
-ghost use Rattle.std.specs.Prelude.{◌≡◌, ℕ, ◌+◌, [], length};
+ghost use Rattle.std.specs.Prelude.{◌≡◌, ◌+◌, [], length};
 ghost use Rattle.bearer.specs.Cables.{feed_number, line_of, feed_room, ends_of, Feeds, Fetches, Frees};
 ghost use Rattle.bearer.specs.Lines.{Takes, Sends, exact_fall};
 

@@ -5,7 +5,7 @@ pub mod cable;
 mod ring;
 pub mod tape;
 
-ghost use Rattle.std.specs.Prelude.{◌≡◌, ℕ, ◌<◌, length, OnSome};
+ghost use Rattle.std.specs.Prelude.{◌≡◌, ◌<◌, length, OnSome};
 ghost use Rattle.bearer.specs.Bearing.{Heard};
 ghost use Rattle.bearer.specs.Lines.{Line, Takes, Sends, exact_fall};
 ghost use Rattle.wire.specs.Receivers.{shows, held, outcome};

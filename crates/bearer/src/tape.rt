@@ -1,6 +1,6 @@
 //! The tape: a bearer that reads a capture and writes a buffer, both the caller's.
 
-ghost use Rattle.std.specs.Prelude.{◌≡◌, ℕ, ◌-◌, ◌≤◌, [], length};
+ghost use Rattle.std.specs.Prelude.{◌≡◌, ◌-◌, ◌≤◌, [], length};
 ghost use Rattle.bearer.specs.Lines.{Takes, Sends, after_send, exact_fall};
 
 use crate::{Bearer, NoRoom};
@@ -13,7 +13,7 @@ pub struct Tape<'a> {
     at: usize,
     out: &'a mut [u8],
     written: usize,
-    ghost within: { written ≤ length out.now },
+    ghost fits: { written ≤ length out.now },
 }
 
 /// Copies `bytes` into as many places.
@@ -42,13 +42,14 @@ impl<'a> Tape<'a> {
     }
 
     /// Writes the bytes from the first unwritten place on.
-    fn write(&mut self, start: usize, bytes: &[u8])
-        requires start { start ≡ self.old.written }
-        requires room { length bytes.now ≤ length (output self.old) - self.old.written }
+    #[tactic(auto, using(crate::proofs::Tapes::sent_more, crate::proofs::Tapes::whole, crate::proofs::Tapes::room_less))]
+    fn write(&mut self, bytes: &[u8])
+        requires { length bytes.now ≤ length (output self.old) - self.old.written }
         ensures sent { tape_line self.new ≡ after_send exact_fall bytes.now (tape_line self.old) }
         ensures output { output self.new ≡ written_at (length (tape_line self.old).sent) bytes.now (output self.old) }
         ensures same { self.new.out.ghost_name ≡ self.old.out.ghost_name }
     {
+        let start = self.written;
         let end = start + bytes.len();
         copy(&mut self.out[start..end], bytes);
         self.written = end;
@@ -78,8 +79,7 @@ impl<'a> Bearer for Tape<'a> {
         if bytes.len() > self.room() {
             return Err(NoRoom);
         }
-        let start = self.written;
-        self.write(start, bytes);
+        self.write(bytes);
         Ok(())
     }
 

@@ -1,7 +1,7 @@
 //! Closed examples: a frame that is fed to a cable or captured on a tape is heard, and what a tape leaves with the caller.
 #![tactic(auto)]
 
-ghost use Rattle.std.specs.Prelude.{◌≡◌, ℕ};
+ghost use Rattle.std.specs.Prelude.{◌≡◌};
 ghost use Rattle.heard.specs.Examples.{Hears, Left, ping};
 
 use bearer::cable::Cable;

@@ -1,6 +1,6 @@
 //! A frame's body: judged, and taken apart into its fields.
 
-ghost use Rattle.std.specs.Prelude.{◌≡◌, ◌+◌, ◌*◌, if◌then◌else◌, nat_le};
+ghost use Rattle.std.specs.Prelude.{◌≡◌, if◌then◌else◌, nat_le};
 ghost use Rattle.wire.specs.Bodies.{verdict};
 ghost use Rattle.wire.specs.Fields.{is_request, judged, Reads};
 

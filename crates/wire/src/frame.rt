@@ -1,6 +1,6 @@
 //! Frames: packed from their fields, and unpacked to their bodies.
 
-ghost use Rattle.std.specs.Prelude.{◌≡◌, ◌+◌, ◌-◌, ◌*◌, ◌<◌, ◌≤◌, [], ◌∷◌, ◌++◌, length, take, drop, MatchOption, OnOk};
+ghost use Rattle.std.specs.Prelude.{◌≡◌, ◌+◌, ◌≤◌, [], ◌∷◌, ◌++◌, length, take, drop, MatchOption, OnOk};
 ghost use Rattle.wire.specs.Bodies.{uncrced, body_of};
 ghost use Rattle.wire.specs.Fields.{content};
 ghost use Rattle.wire.specs.Framing.{stuffed, stuffed_byte, framed, packed, unpacked, Writes};
