@@ -1,13 +1,15 @@
-//! Bodies, looked at for a script. The words are the console's and no `Display` of the types, which are the board's and format nothing; a type
-//! around each of them, made for that, would be longer than its function here.
+//! Bodies, looked at for a script. The words are the console's, and no `Display` of the types: that can stand only with the type, in a crate of the
+//! board's, and a type around each of them, made for it, would be longer than its function here.
 
 ghost use Rattle.std.specs.Prelude.{◌≡◌, ℕ, List, [], ◌∷◌, ◌++◌, string_bytes, codes, OnOk};
 ghost use Rattle.answers.specs.Spoken.{counted, selector_text, question_text, counters_numbers, answer_text, look_text, LookText};
+ghost use Rattle.numbering.specs.Numbered.{command_number, energy_number, field_number};
 ghost use Rattle.text.specs.Answers.{solid_pairs, text_word};
 
 use asking::question::Question;
 use asking::selector::Selector;
 use look::Look;
+use numbering::{Command, Energy, TextField};
 use protocol::answer::Answer;
 use protocol::counters::Counters;
 use std::alloc::AllocError;
@@ -53,15 +55,15 @@ fn write_question(out: &mut String, question: Question) -> Result<(), AllocError
 }
 
 /// Config, the ratios, the sums and the tariffs of a counter, behind its type.
-fn write_counters(out: &mut String, energy: u8, counters: &Counters) -> Result<(), AllocError>
-    ensures { OnOk result (string_bytes out.new ≡ string_bytes out.old ++ counted (codes " counter") (energy ∷ counters_numbers counters.now)) }
+fn write_counters(out: &mut String, energy: Energy, counters: &Counters) -> Result<(), AllocError>
+    ensures { OnOk result (string_bytes out.new ≡ string_bytes out.old ++ counted (codes " counter") (energy_number energy ∷ counters_numbers counters.now)) }
 {
     let config = u32::from(counters.config);
     let voltage = u32::from(counters.voltage_ratio);
     let current = u32::from(counters.current_ratio);
     let [t1, t2, t3, t4] = counters.tariffs;
     let numbers = [
-        u32::from(energy),
+        u32::from(u8::from(energy)),
         config,
         voltage,
         current,
@@ -84,8 +86,8 @@ fn write_answer(out: &mut String, answer: &Answer<'_>) -> Result<(), AllocError>
             " ping",
             &[u32::from(*version), u32::from(*info)],
         ),
-        Answer::Counter { energy, counters } => write_counters(out, u8::from(*energy), counters),
-        Answer::Text { field, text } => write_string(out, u8::from(*field), text),
+        Answer::Counter { energy, counters } => write_counters(out, *energy, counters),
+        Answer::Text { field, text } => write_string(out, *field, text),
         Answer::Parameter { parameter, value } => {
             write_counted(
                 out,
@@ -98,13 +100,12 @@ fn write_answer(out: &mut String, answer: &Answer<'_>) -> Result<(), AllocError>
 }
 
 /// A subscriber string behind its field.
-fn write_string(out: &mut String, field: u8, text: &[u8]) -> Result<(), AllocError>
-    ensures { OnOk result (string_bytes out.new ≡ string_bytes out.old ++ (counted (codes " string") (field ∷ []) ++ 32 ∷ text_word text.now)) }
+fn write_string(out: &mut String, field: TextField, text: &[u8]) -> Result<(), AllocError>
+    ensures { OnOk result (string_bytes out.new ≡ string_bytes out.old ++ (counted (codes " string") (field_number field ∷ []) ++ 32 ∷ text_word text.now)) }
 {
-    write_counted(out, " string", &[u32::from(field)])?;
+    write_counted(out, " string", &[u32::from(u8::from(field))])?;
     out.push_str(" ")?;
-    write_text(out, text)?;
-    Ok(())
+    write_text(out, text)
 }
 
 /// What is asked, behind who is asked, who asks and the password.
@@ -120,8 +121,7 @@ fn write_asked(
     write_counted(out, "question", &[u32::from(to), u32::from(from)])?;
     out.push_str(" ")?;
     write_password(out, password)?;
-    write_question(out, question)?;
-    Ok(())
+    write_question(out, question)
 }
 
 /// What is answered, behind who is answered, who answers and three statuses.
@@ -146,25 +146,24 @@ fn write_answered(
             u32::from(s3),
         ],
     )?;
-    write_answer(out, answer)?;
-    Ok(())
+    write_answer(out, answer)
 }
 
 /// The command complained of and four statuses, behind who is told and who complains.
 fn write_complaint(
     out: &mut String,
     ends: [u16; 2],
-    command: u8,
+    command: Command,
     status: [u8; 4],
 ) -> Result<(), AllocError>
-    ensures { OnOk result (string_bytes out.new ≡ string_bytes out.old ++ counted (codes "complaint") (ends ++ command ∷ status)) }
+    ensures { OnOk result (string_bytes out.new ≡ string_bytes out.old ++ counted (codes "complaint") (ends ++ command_number command ∷ status)) }
 {
     let [to, from] = ends;
     let [s1, s2, s3, s4] = status;
     let numbers = [
         u32::from(to),
         u32::from(from),
-        u32::from(command),
+        u32::from(u8::from(command)),
         u32::from(s1),
         u32::from(s2),
         u32::from(s3),
@@ -194,7 +193,7 @@ fn write_look(out: &mut String, look: &Look<'_>) -> Result<(), AllocError>
             source,
             command,
             status,
-        } => { write_complaint(out, [*destination, *source], u8::from(*command), *status) }
+        } => { write_complaint(out, [*destination, *source], *command, *status) }
     }
 }
 

@@ -8,7 +8,7 @@ use crate::{Bearer, NoRoom};
 /// A capture with the place of the next byte, and an outgoing buffer with its first unwritten place.
 #[derive(Drop)]
 pub struct Tape<'a> {
-    // Read by position, the project's form for a capture.
+    // By position, as the capture stays whole with its owner.
     capture: &'a [u8],
     at: usize,
     out: &'a mut [u8],

@@ -207,10 +207,7 @@ fn full_book(rt: &HostRuntime) -> io::Result<Vec<u8>> {
     let readings = [temperature(), street(), counter(), ping].map(of_five);
     let book = written(rt.alloc(), &meters, &readings, ROOM)?;
     print_book(rt, "four records", &book)?;
-    match book {
-        Ok(bytes) => Ok(bytes),
-        Err(_) => Ok(Vec::new(rt.alloc())),
-    }
+    Ok(book.unwrap_or(Vec::new(rt.alloc())))
 }
 
 /// Reads a book into empty files with places enough, and prints what comes of it.
@@ -241,10 +238,7 @@ fn read(
     if let Err(refusal) = read_book(&mut meters, &mut readings, book) {
         return Ok(Err(refusal));
     }
-    let same = match save(heap, &meters, &readings, ROOM)? {
-        Ok(bytes) => bytes.as_slice() == book,
-        Err(_) => false,
-    };
+    let same = save(heap, &meters, &readings, ROOM)?.is_ok_and(|bytes| bytes.as_slice() == book);
     Ok(Ok(Granted {
         meters: meters.len(),
         readings: readings.len(),
@@ -293,6 +287,7 @@ fn read_cut(rt: &HostRuntime, book: &[u8]) -> io::Result<()> {
     let mut early = 0u32;
     for length in 0..book.len() {
         let outcome = read(rt.alloc(), &book[..length], METERS, PLACES)?;
+        // By its number, which the line below prints.
         if outcome.is_err_and(|refusal| u8::from(refusal) == 51) {
             early = early.saturating_add(1);
         }

@@ -1,4 +1,6 @@
 //! The numbers that stand in a frame for commands, energies, text fields, parameters, relays and positions.
+//!
+//! Each enum has its own lists of numbers, which differ in every line.
 #![tactic(auto)]
 
 mod command;

@@ -11,7 +11,8 @@ use crate::table::Full;
 use crate::{Key, Keyed};
 use std::cmp::Ordering;
 
-/// Where the key stands, or where it would: the search goes up from the lowest key, and no further than the first that is not below.
+// No binary search: the project's rule is that a search goes up from the lowest key and reads nothing above the first that is not below.
+/// Where the key stands, or where it would.
 fn locate<R: Keyed>(records: &[R], key: &R::Id) -> Result<usize, usize>
     ensures { Located R.Keyed.place (R.Id.Key.rank key.now) records.now result }
 {

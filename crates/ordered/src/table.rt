@@ -11,6 +11,8 @@ use crate::places::{append, find, put, remove};
 pub struct Full;
 
 /// Records in the order of their keys, none with the key of another, at the front of places that the caller lends.
+// Places and their number taken, not a `Vec`: the places are the caller's, as the board has no heap. The clauses `same` tie a loan before a call
+// to the one after it, which no type can say.
 #[derive(Drop)]
 pub struct Table<'a, R: Keyed> {
     places: &'a mut [R],

@@ -51,7 +51,7 @@ impl Counters {
     pub fn data(self, energy: Energy) -> [u8; 30]
         ensures { result ≡ energy_number energy ∷ counters_bytes self }
     {
-        // No method joins arrays of several sizes without a heap, so each part has its place by number.
+        // By places: the library joins no arrays of several sizes, and a list that grows would be turned back into an array that it just fills.
         let mut data = [0; 30];
         data[0] = u8::from(energy);
         data[1] = self.config;

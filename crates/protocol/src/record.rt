@@ -14,6 +14,7 @@ use asking::buffer::put;
 use asking::selector::Selector;
 use numbering::{Energy, Parameter, TextField};
 
+// Beside `Answer`, since a record owns its text, in places of a fixed number, and nothing is filed of a relay.
 /// A text holds its characters and then zeros.
 #[derive(Clone, Copy, Debug, PartialEq, Eq, Hash)]
 pub enum Record {
@@ -31,6 +32,7 @@ fn text_data(field: TextField, text: &[u8; 30]) -> [u8; 31]
     data
 }
 
+// No `TryFrom`: that nothing is filed of an answer is no error.
 fn filed(answer: Answer<'_>) -> Option<Record>
     ensures { Exactly (Kept answer.entry) result }
 {

@@ -1,4 +1,4 @@
-//! Answers as text.
+//! Answers as text. The functions append to a `String` and are no `Display`: what they write are bytes and numbers, in forms of the console's.
 
 ghost use Rattle.std.specs.Prelude.{◌≡◌, ◌++◌, string_bytes, codes, OnOk};
 ghost use Rattle.std.specs.List.{flat_map};
@@ -55,6 +55,7 @@ pub fn write_text(out: &mut String, text: &[u8]) -> Result<(), AllocError>
     }
 }
 
+// A number and no type, since the refusals of several crates come here.
 /// Appends `refused N (MEANING)`.
 pub fn write_refusal(out: &mut String, number: u8) -> Result<(), AllocError>
     ensures { OnOk result (string_bytes out.new ≡ string_bytes out.old ++ refusal number) }

@@ -4,7 +4,7 @@ ghost use Rattle.std.specs.Prelude.{◌≡◌};
 ghost use Rattle.std.specs.Option.{option_map};
 ghost use Rattle.tokens.specs.Names.{letter, name_of, letters_of};
 
-/// The name of a post: 1 to 16 letters a to z, with zeros behind them.
+/// The name of a post: 1 to 16 letters a to z, with zeros behind them. It has its 16 places in itself, since it is copied about.
 #[derive(Clone, Copy, Debug, PartialEq, Eq)]
 pub struct Name {
     pub letters: [u8; 16],

@@ -13,22 +13,15 @@ mod tests {
         0x73, 0x55, 0x20, 0, 5, 0, 0xFF, 0xFF, 1, 0, 0, 0, 0, 0xCA, 0x55,
     ];
 
-    // What unpack answers: the body's length, or 100 and the refusal's number. Numbers, as the tests' values are.
-    fn unpacked(input: &[u8], buffer: &mut [u8]) -> usize {
-        match unpack(input, buffer) {
-            Ok(length) => length,
-            Err(refusal) => 100 + usize::from(u8::from(refusal)),
-        }
+    // What unpack answers: the body's length, or the refusal's number.
+    fn unpacked(input: &[u8], buffer: &mut [u8]) -> Result<usize, u8> {
+        unpack(input, buffer).map_err(u8::from)
     }
 
-    // What a new receiver says of the bytes: 0 for nothing, 1 for a good frame, else the fault's number. Numbers, as the tests' values are.
-    fn heard(bytes: &[u8]) -> u8 {
+    // What a new receiver says of the bytes: nothing, a good frame, or the fault's number.
+    fn heard(bytes: &[u8]) -> Option<Result<(), u8>> {
         let mut receiver = Receiver::new();
-        match receiver.run(bytes) {
-            (_, None) => 0,
-            (_, Some(Ok(()))) => 1,
-            (_, Some(Err(fault))) => u8::from(fault),
-        }
+        receiver.run(bytes).1.map(|event| event.map_err(u8::from))
     }
 
     #[test]
@@ -49,7 +42,7 @@ mod tests {
                 source: 0x7355,
                 command: 0x55,
                 four: [0x73, 0x55, 0x11, 0x22],
-                payload: &data[0..length],
+                payload: &data[..length],
             };
             let mut frame = [0; 89];
             let mut body = [0; 43];
@@ -57,7 +50,7 @@ mod tests {
                 return Err(Fail::new("not packed"));
             };
             assert!(rt; size <= 89);
-            assert_eq!(rt; unpacked(&frame[0..size], &mut body), 12 + length);
+            assert_eq!(rt; unpacked(&frame[..size], &mut body), Ok(12 + length));
         }
         Ok(())
     }
@@ -66,26 +59,26 @@ mod tests {
     fn short_buffers_and_inputs(rt: HostRuntime) {
         let mut short = [7; 42];
         let mut body = [7; 43];
-        assert_eq!(rt; unpacked(&PING, &mut short), 103);
-        assert_eq!(rt; unpacked(&PING[1..15], &mut body), 104);
+        assert_eq!(rt; unpacked(&PING, &mut short), Err(3));
+        assert_eq!(rt; unpacked(&PING[1..15], &mut body), Err(4));
         assert!(rt; body == [7; 43]);
     }
 
     #[test]
     fn faults_of_unpack(rt: HostRuntime) {
         let mut body = [7; 43];
-        assert_eq!(rt; unpacked(&[0x73, 0x55, 0, 0], &mut body), 105);
-        assert_eq!(rt; unpacked(&[0x73, 0x55, 0x73, 0x73], &mut body), 131);
-        assert_eq!(rt; unpacked(&[0x73, 0x55, 0, 0x55, 0], &mut body), 133);
+        assert_eq!(rt; unpacked(&[0x73, 0x55, 0, 0], &mut body), Err(5));
+        assert_eq!(rt; unpacked(&[0x73, 0x55, 0x73, 0x73], &mut body), Err(31));
+        assert_eq!(rt; unpacked(&[0x73, 0x55, 0, 0x55, 0], &mut body), Err(33));
         assert!(rt; body == [7; 43]);
     }
 
     #[test]
     fn noise_before_a_frame(rt: HostRuntime) {
-        assert_eq!(rt; heard(&[0, 0x73, 0, 0x55, 0x73, 0x73]), 0);
-        assert_eq!(rt; heard(&PING), 1);
-        assert_eq!(rt; heard(&[0x73, 0x55, 1, 0x73, 0x11]), 0);
-        assert_eq!(rt; heard(&[0x73, 0x55, 1, 0x73, 0x55]), 31);
-        assert_eq!(rt; heard(&[0x73, 0x55, 0x55]), 33);
+        assert_eq!(rt; heard(&[0, 0x73, 0, 0x55, 0x73, 0x73]), None);
+        assert_eq!(rt; heard(&PING), Some(Ok(())));
+        assert_eq!(rt; heard(&[0x73, 0x55, 1, 0x73, 0x11]), None);
+        assert_eq!(rt; heard(&[0x73, 0x55, 1, 0x73, 0x55]), Some(Err(31)));
+        assert_eq!(rt; heard(&[0x73, 0x55, 0x55]), Some(Err(33)));
     }
 }
