@@ -1,6 +1,6 @@
 //! Numbers read from bytes and written to them.
 
-ghost use Rattle.std.specs.Prelude.{◌≡◌, ◌+◌, ◌<◌, ◌≤◌, [], ◌++◌, length, take, drop};
+ghost use Rattle.std.specs.Prelude.{◌≡◌, ◌+◌, ◌<◌, ◌≤◌, ◌++◌, length, take, drop};
 ghost use Rattle.leb128.specs.Laws.{Back, Only};
 ghost use Rattle.leb128.specs.Numbers.{number_form, number_read, groups_read};
 ghost use Rattle.leb128.specs.Reads.{Took};

@@ -2,7 +2,7 @@
 //! facts do not hold while records move.
 
 ghost use Rattle.std.specs.Prelude.{◌≡◌, ℕ, ◌+◌, ◌-◌, ◌<◌, ◌≤◌, true, length, take, Err, slice_index_or, slice_set};
-ghost use Rattle.ordered.specs.Ranks.{Located, found, within, without};
+ghost use Rattle.ordered.specs.Ranks.{Located, found, within};
 ghost use Rattle.ordered.specs.Ranks.{Rises};
 ghost use Rattle.ordered.specs.Filing.{lent, Filed, Kept};
 ghost use Rattle.ordered.specs.Tables.{Sound};

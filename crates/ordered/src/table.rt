@@ -1,6 +1,6 @@
 //! The ordered table.
 
-ghost use Rattle.std.specs.Prelude.{◌≡◌, ℕ, ◌-◌, ◌≤◌, ◌↔◌, min, [], take, length, is_some, slice_get, IsTrue};
+ghost use Rattle.std.specs.Prelude.{◌≡◌, ◌-◌, ◌≤◌, ◌↔◌, min, [], take, length, is_some, slice_get, IsTrue};
 ghost use Rattle.ordered.specs.Ranks.{Rises, found, without};
 
 use crate::Keyed;
@@ -23,7 +23,7 @@ pub struct Table<'a, R: Keyed> {
 }
 
 impl<'a, R: Keyed> Table<'a, R> {
-    ghost use Rattle.ordered.specs.Tables.{State, state_of, records, room, holding, Puts, FindsPut, FindsRest};
+    ghost use Rattle.ordered.specs.Tables.{state_of, records, room, holding, Puts, FindsPut, FindsRest};
 
     /// An empty table over the caller's places, of which the first `limit` count.
     pub fn new(places: &'a mut [R], limit: usize) -> Table<'a, R>

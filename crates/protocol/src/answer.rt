@@ -1,6 +1,5 @@
 //! What the data of an answer say.
 
-ghost use Rattle.std.specs.Prelude.{◌≡◌};
 ghost use Rattle.protocol.specs.Answers.{Means};
 ghost use Rattle.numbering.specs.Exactly.{Exactly};
 

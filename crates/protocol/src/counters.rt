@@ -1,6 +1,6 @@
 //! The values of a counter, as an answer carries them behind the counter's type.
 
-ghost use Rattle.std.specs.Prelude.{◌≡◌, ◌∷◌, length, MatchBool};
+ghost use Rattle.std.specs.Prelude.{◌≡◌, ◌∷◌};
 ghost use Rattle.protocol.specs.Counting.{Fit, counters_bytes};
 ghost use Rattle.numbering.specs.Exactly.{Exactly};
 ghost use Rattle.numbering.specs.Numbered.{energy_number};

@@ -1,6 +1,6 @@
 //! Text in its 30 places: characters, and then zeros.
 
-ghost use Rattle.std.specs.Prelude.{◌≡◌, ℕ, ◌<◌, ◌≤◌, ◌++◌, length, replicate, MatchBool, ◌≢◌, slice_index};
+ghost use Rattle.std.specs.Prelude.{◌≡◌, ℕ, ◌<◌, ◌≤◌, length, MatchBool, ◌≢◌, slice_index};
 ghost use Rattle.numbering.specs.Exactly.{Exactly};
 ghost use Rattle.protocol.specs.Text.{character, Character, padded, Shown};
 
