@@ -1,9 +1,8 @@
 -- Parts of a body and of a frame, put together.
 use Rattle.std.proofs.Common.{◌≡◌, ℕ, zero, suc, ◌+◌, ◌-◌, ◌<◌, ◌≤◌, List, [], ◌∷◌, ◌++◌, length, get_or, take, drop, set, sym, refl, ap, ◌∙◌, arith}
-use Rattle.wire.specs.Crc.{crc_of}
 use Rattle.wire.specs.Framing.{stuffed, framed}
 use borrow.Rule.Slice.PartMut.{put_mid}
-use Rattle.std.proofs.lemmas.List.{append-nil, drop_all, drop_more, take_at, take_more_set, drop-set-lt, length-append, length-drop, length-set, length-take}
+use Rattle.std.proofs.lemmas.List.{append-nil, drop_all, drop_more, take_more_set, drop-set-lt, length-append, length-drop, length-set, length-take}
 use Rattle.std.proofs.lemmas.Slice.{take-put_mid, drop-put_mid}
 
 -- n places from i on, one by one
@@ -23,16 +22,6 @@ pub all_places : (n : ℕ) (xs : List ℕ) → length xs ≡ n → places_from 0
 all_places n xs l =
     sym (append-nil (places_from 0 n xs))
     ∙ (ap (λ v. places_from 0 n xs ++ v) (sym (drop_all (0 + n) xs (omega arith))) ∙ sym (spread n 0 xs (omega arith)))
-
--- the front of a list after its two parts, one behind the other, are put in place
-pub two_parts : (a k n : ℕ) (h p rest : List ℕ) → length h ≡ a → n ≡ a + length p → take n (put_mid a k (h ++ rest) p) ≡ h ++ p
-two_parts a k n h p rest l e =
-    take-put_mid a k (h ++ rest) p n e (simp length-append (omega arith)) ∙ ap (λ v. v ++ p) (take_at h rest a l)
-
--- the CRC of the front, put behind it
-pub crc_behind : (w u : List ℕ) (n m x : ℕ) → n < length w → take n w ≡ u → m ≡ n → x ≡ crc_of (take m w) → take (n + 1) (set w n x) ≡ u ++ crc_of u ∷ []
-crc_behind w u n m x h t e s =
-    take_more_set w n x h ∙ (ap (λ v. take n w ++ v ∷ []) (s ∙ (ap (λ j. crc_of (take j w)) e ∙ ap crc_of t)) ∙ ap (λ v. v ++ crc_of u ∷ []) t)
 
 pub length_framed : (body : List ℕ) → length (framed body) ≡ length (stuffed body) + 3
 unfolding framed

@@ -1,5 +1,5 @@
 -- The receiver of the code, as the machine that it is.
-use Rattle.std.specs.Prelude.{◌≡◌, ℕ, List, take, Some, None, Ok, Err, Option, Result}
+use Rattle.std.specs.Prelude.{◌≡◌, ℕ, List, Some, None, Ok, Err, Option, Result}
 use Rattle.wire.specs.Faults.{fault_number}
 use Rattle.wire.specs.Receiving.{Receiving, Outcome, hunting, marked, inside, escaped, nothing, fault, good}
 use Rattle.wire.specs.Framing.{made, refused, unframed}
@@ -13,7 +13,7 @@ use Rattle.wire.specs.declared.receiver.Receiver.{Receiver}
 
 -- the bytes of the body that a receiver holds
 abbrev pub held : Receiver → List ℕ
-held r = take r.length r.bytes
+held r = r.body.items
 
 abbrev pub standing : Condition → List ℕ → Receiving
 standing Hunting body = hunting

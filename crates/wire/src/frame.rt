@@ -13,6 +13,7 @@ use crate::body::Fields;
 use crate::crc::crc8;
 use crate::fault::Fault;
 use crate::receiver::{FLAG, FLAG_ESCAPED, LONGEST, MARK, MARK_ESCAPED, Receiver};
+use arrayvec::ArrayVec;
 
 /// The most data bytes of a frame: what five bits can state.
 const MOST_DATA: usize = 31;
@@ -140,20 +141,18 @@ fn header(fields: &Fields) -> [u8; 11]
     [parameter, 0, d0, d1, s0, s1, fields.command, f0, f1, f2, f3]
 }
 
-/// Puts the body at the front of the places for the longest one, and answers its length.
-fn write_body(fields: &Fields, body: &mut [u8]) -> usize
-    requires data { length fields.now.payload.now ≤ 31 }
-    requires places { length body.old ≡ 43 }
-    ensures length { result ≡ 12 + length fields.now.payload.now }
-    ensures body { take result body.new ≡ body_of (content fields.now) }
+/// The body of `fields`.
+#[tactic(auto, using(crate::proofs::Tripping::unpacks_back), unfolding(crate::specs::Bodies::body_of))]
+fn pack_body(fields: &Fields) -> ArrayVec<u8, LONGEST>
+    requires { length fields.now.payload.now ≤ 31 }
+    ensures body { result.items ≡ body_of (content fields.now) }
     ensures back { UnpacksBack (content fields.now) }
 {
-    let end = 11 + fields.payload.len();
-    let header = header(fields);
-    body[..11].copy_from_slice(&header);
-    body[11..end].copy_from_slice(fields.payload);
-    body[end] = crc8(&body[..end]);
-    end + 1
+    let mut body = ArrayVec::new();
+    body.try_extend_from_slice(&header(fields)).unwrap();
+    body.try_extend_from_slice(fields.payload).unwrap();
+    body.push(crc8(body.as_slice()));
+    body
 }
 
 /// The length of the frame around `body`.
@@ -189,14 +188,12 @@ pub fn pack(fields: &Fields, buffer: &mut [u8]) -> Result<usize, PackRefusal>
     if fields.payload.len() > MOST_DATA {
         return Err(PackRefusal::TooMuchData);
     }
-    // Fixed memory and its length, as the board has no heap.
-    let mut body = [0; LONGEST];
-    let end = write_body(fields, &mut body);
-    let size = frame_length(&body[..end]);
+    let body = pack_body(fields);
+    let size = frame_length(body.as_slice());
     if buffer.len() < size {
         return Err(PackRefusal::ShortOfFrame);
     }
-    write_frame(&body[..end], size, buffer);
+    write_frame(body.as_slice(), size, buffer);
     Ok(size)
 }
 

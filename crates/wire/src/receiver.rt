@@ -1,10 +1,11 @@
 //! The receiver: frames found in a stream of bytes.
 
-ghost use Rattle.std.specs.Prelude.{◌≡◌, ◌+◌, ◌<◌, ◌≤◌, [], ◌∷◌, ◌++◌, length, drop};
+ghost use Rattle.std.specs.Prelude.{◌≡◌, ◌≤◌, [], ◌∷◌, ◌++◌, length, drop};
 ghost use Rattle.wire.specs.Receiving.{hunting, inside, joined, closed, step, run};
 
 use crate::body::judge;
 use crate::fault::Fault;
+use arrayvec::ArrayVec;
 
 /// The most bytes that a body has.
 pub const LONGEST: usize = 43;
@@ -38,9 +39,7 @@ pub type Event = Result<(), Fault>;
 #[derive(Debug, Drop)]
 pub struct Receiver {
     condition: Condition,
-    bytes: [u8; LONGEST],
-    length: usize,
-    ghost few: { length ≤ 43 },
+    body: ArrayVec<u8, LONGEST>,
 }
 
 impl Receiver {
@@ -66,8 +65,7 @@ impl Receiver {
     {
         Receiver {
             condition,
-            bytes: [0; LONGEST],
-            length: 0,
+            body: ArrayVec::new(),
         }
     }
 
@@ -110,7 +108,7 @@ impl Receiver {
         ensures bytes { result.now ≡ held self.now }
         ensures bound { length result.now ≤ 43 }
     {
-        &self.bytes[..self.length]
+        self.body.as_slice()
     }
 
     /// Goes on in another condition, and hands the event on.
@@ -129,7 +127,7 @@ impl Receiver {
         ensures shows { shows self.new ≡ inside [] }
     {
         self.condition = Condition::Inside;
-        self.length = 0;
+        self.body.clear();
         event
     }
 
@@ -145,22 +143,12 @@ impl Receiver {
     fn join(&mut self, byte: u8) -> Option<Event>
         ensures { joined (held self.old) byte ≡ (shows self.new, outcome result (held self.new)) }
     {
-        if self.length >= LONGEST {
+        if self.body.is_full() {
             self.condition = Condition::Hunting;
             return Some(Err(Fault::Overlong));
         }
-        self.hold(byte);
-        None
-    }
-
-    /// Puts a byte behind those that are held.
-    fn hold(&mut self, byte: u8)
-        requires { self.old.length < 43 }
-        ensures few { length (held self.old) < 43 }
-        ensures shows { shows self.new ≡ inside (held self.old ++ byte ∷ []) }
-    {
         self.condition = Condition::Inside;
-        self.bytes[self.length] = byte;
-        self.length += 1;
+        self.body.push(byte);
+        None
     }
 }
