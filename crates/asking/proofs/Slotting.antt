@@ -26,7 +26,7 @@ pub slots_apart : (x y : Selector) → slot_of x ≡ slot_of y → x ≡ y
 slots_apart x y e = sym (placed x) ∙ ap (λ n. get_or order (n - 1) Ping) e ∙ placed y
 
 -- the slots of these selectors are the numbers from n on
-abbrev Counts : List Selector → ℕ → Type 0
+abbrev pub Counts : List Selector → ℕ → Type 0
 Counts [] n = Unit {0}
 Counts (x ∷ xs) n = (slot_of x ≡ n) × Counts xs (suc n)
 
@@ -38,7 +38,7 @@ counted (x ∷ xs) m n q h l =
 all_counted : Counts order 1
 all_counted = search rules
 
-bounded : (x : Selector) → (1 ≤ slot_of x) × (slot_of x ≤ 28)
+pub bounded : (x : Selector) → (1 ≤ slot_of x) × (slot_of x ≤ 28)
 bounded x = search rules
 
 pub slots_all : (n : ℕ) (r : Option Selector) → Exactly (λ x. slot_of x ≡ n) r → Iff (is_some r ≡ true) ((1 ≤ n) × (n ≤ 28))
