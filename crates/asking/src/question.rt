@@ -25,6 +25,7 @@ fn read_ping(bytes: &[u8]) -> Option<Question>
     }
 }
 
+// By its number, as `Selector::named` takes it and decodes every command.
 /// A reading question that is not a ping.
 fn read_selector(command: u8, bytes: &[u8]) -> Option<Question>
     requires { (command ≢ 0x01) × (command ≢ 0x3A) }

@@ -8,7 +8,7 @@ use crate::{Bearer, NoRoom};
 /// A capture with the place of the next byte, and an outgoing buffer with its first unwritten place.
 #[derive(Drop)]
 pub struct Tape<'a> {
-    // By position, as the capture stays whole with its owner.
+    // By position, as the capture stays whole with its owner. The clauses `same` tie the buffer's loan before a call to the one after it.
     capture: &'a [u8],
     at: usize,
     out: &'a mut [u8],

@@ -17,7 +17,8 @@ pub enum Answer<'a> {
     Relay,
 }
 
-// Source and data stay two parameters of each reader: a struct around them would be taken apart in each again.
+// Source and data stay two parameters of each reader: a struct around them would be taken apart in each again. A reader takes the source also
+// where it looks at the data alone, since its contract says whose answer it is.
 fn read_ping(source: u16, bytes: &[u8]) -> Option<Answer<'_>>
     ensures { Exactly (Means Command.Ping source bytes.now) result }
 {
