@@ -4,6 +4,7 @@
 ghost use Rattle.std.specs.Prelude.{◌≡◌};
 ghost use Rattle.worked.specs.Examples.{Examples};
 ghost use Rattle.worked.specs.Saved.{SavedExamples};
+ghost use Rattle.worked.specs.Worked.{WorkedExamples};
 
 use book::ReadRefusal;
 use leb128::{Cause, number_size};
@@ -53,4 +54,12 @@ pub fn saved_examples() -> usize
     } else {
         0
     }
+}
+
+/// Answers how many examples stand of either kind; its contract is the one list of all.
+pub fn worked_examples() -> usize
+    ensures count { result ≡ 18 }
+    ensures examples { WorkedExamples }
+{
+    examples() + saved_examples()
 }
