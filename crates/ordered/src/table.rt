@@ -1,6 +1,6 @@
 //! The ordered table.
 
-ghost use Rattle.std.specs.Prelude.{◌≡◌, ◌-◌, ◌≤◌, ◌↔◌, min, [], take, length, is_some, slice_get, IsTrue};
+ghost use Rattle.std.specs.Prelude.{◌≡◌, ℕ, None, ◌-◌, ◌≤◌, ◌↔◌, min, [], take, length, is_some, slice_get, IsTrue};
 ghost use Rattle.ordered.specs.Ranks.{Rises, found, without};
 
 use crate::Keyed;
@@ -28,6 +28,7 @@ impl<'a, R: Keyed> Table<'a, R> {
     /// An empty table over the caller's places, of which the first `limit` count.
     pub fn new(places: &'a mut [R], limit: usize) -> Table<'a, R>
         ensures state { state_of result ≡ record { places = places.entry.now; limit = limit; held = 0 } }
+        ensures finds { (k : ℕ) → found R.Keyed.place k (records (state_of result)) ≡ None }
         ensures same { result.places.ghost_name ≡ places.entry.ghost_name }
     {
         Table {
@@ -134,6 +135,7 @@ impl<'a, R: Keyed> Table<'a, R> {
     /// Removes every record.
     pub fn clear(&mut self)
         ensures left { state_of self.new ≡ holding [] (state_of self.old) }
+        ensures finds { (k : ℕ) → found R.Keyed.place k (records (state_of self.new)) ≡ None }
         ensures same { self.new.places.ghost_name ≡ self.old.places.ghost_name }
     {
         self.held = 0;
