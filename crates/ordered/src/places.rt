@@ -26,6 +26,7 @@ fn locate<R: Keyed>(records: &[R], key: &R::Id) -> Result<usize, usize>
     Err(records.len())
 }
 
+// A match, of which each way out is proved by itself: `ok().map(..)` was tried, and its one goal does not close by the search.
 /// The record with the key.
 pub(crate) fn find<R: Keyed>(records: &[R], key: &R::Id) -> Option<R>
     ensures { Rises R.Keyed.place records.now → result ≡ found R.Keyed.place (R.Id.Key.rank key.now) records.now }

@@ -41,6 +41,7 @@ pub enum Keyword {
     Same,
 }
 
+// Taken apart by both, since the two words in its middle have a name of their own in each call.
 /// What `ask` and `switch` say, in the order of the words.
 #[derive(Clone, Copy, Debug, PartialEq, Eq)]
 pub struct Question {
@@ -51,6 +52,7 @@ pub struct Question {
     pub scratch: u16,
 }
 
+// Taken apart in `Command::Pack`, whose data stand beside what it holds.
 /// What `pack` says before the data.
 #[derive(Clone, Copy, Debug, PartialEq, Eq)]
 pub struct Head {
@@ -396,10 +398,7 @@ fn read_words(heap: Global, words: &[&[u8]]) -> Result<Line, AllocError>
     if is_remark(first) {
         return Ok(Line::Nothing);
     }
-    match read_sentence(heap, first, args)? {
-        Some(command) => Ok(Line::Command(command)),
-        None => Ok(Line::Unreadable),
-    }
+    Ok(read_sentence(heap, first, args)?.map_or(Line::Unreadable, Line::Command))
 }
 
 /// What a line of a script says; a line has no line end.
