@@ -1,19 +1,36 @@
 //! Answers as text. The functions append to a `String` and are no `Display`: what they write are bytes and numbers, in forms of the console's.
 
-ghost use Rattle.std.specs.Prelude.{◌≡◌, ◌++◌, string_bytes, codes, OnOk};
+ghost use Rattle.std.specs.Prelude.{◌≡◌, ◌<◌, ◌++◌, string_bytes, codes, OnOk};
 ghost use Rattle.std.specs.List.{flat_map};
-ghost use Rattle.text.specs.Answers.{two_digits, solid_pairs, trailing_pairs, trailing_numbers, text_word, refusal};
+ghost use Rattle.text.specs.Answers.{hex_digit, two_digits, solid_pairs, trailing_pairs, trailing_numbers, text_word, refusal};
 
 use crate::phrases::meaning;
 use std::alloc::AllocError;
 use std::fmt::Write;
 
+/// The upper-case digit of a value below 16.
+fn hex_digit(value: u8) -> char
+    requires { value < 16 }
+    ensures digit { result ≡ hex_digit value }
+    ensures ascii { result < 128 }
+{
+    let code = if value < 10 {
+        b'0' + value
+    } else {
+        b'A' + (value - 10)
+    };
+    char::from(code)
+}
+
 /// Appends a byte as two digits, behind a separator.
-#[tactic(auto, using(crate::proofs::Printing::pair_written))]
+// Digit by digit, not by the format `{:02X}`: that costs several times as much for each byte.
 fn write_pair(out: &mut String, separator: &str, byte: u8) -> Result<(), AllocError>
     ensures { OnOk result (string_bytes out.new ≡ string_bytes out.old ++ (separator.now ++ two_digits byte)) }
 {
-    write!(out, "{separator}{byte:02X}")
+    out.push_str(separator)?;
+    out.push(hex_digit(byte / 16))?;
+    out.push(hex_digit(byte % 16))?;
+    Ok(())
 }
 
 /// Appends bytes as pairs, each behind a separator.
