@@ -1,11 +1,16 @@
 -- Steps of a ring.
-use Rattle.std.proofs.Common.{◌≡◌, ℕ, zero, suc, ◌+◌, ◌%◌, ◌<◌, ◌≢◌, List, [], ◌∷◌, ◌++◌, length, get_or, set, refl, ap, ◌∙◌, add-one, arith}
+use Rattle.std.proofs.Common.{◌≡◌, ℕ, zero, suc, ◌+◌, ◌-◌, ◌%◌, ◌<◌, ◌≢◌, List, [], ◌∷◌, ◌++◌, length, get_or, set, refl, ap, ◌∙◌, add-one, arith}
 use Rattle.std.proofs.lemmas.List.{get_or-set_same, get_or-set_other}
 use Rattle.bearer.specs.Held.{held}
 
 pub length_held : (places : List ℕ) (h n : ℕ) → length (held places h n) ≡ n
 length_held places h zero = refl
 length_held places h (suc n) = let e = length_held places ((h + 1) % 128) n in omega arith
+
+-- the first byte, and the others from the next place on
+pub held_pop : (places : List ℕ) (h n : ℕ) → 0 < n → held places h n ≡ get_or places h 0 ∷ held places ((h + 1) % 128) (n - 1)
+held_pop places h zero p = absurd (omega arith)
+held_pop places h (suc n) p = let e : n ≡ suc n - 1 = omega arith in ap (λ m. get_or places h 0 ∷ held places ((h + 1) % 128) m) e
 
 -- a byte written at the first free place stands behind the others
 pushed : (places : List ℕ) (b h n t : ℕ) → length places ≡ 128 → h < 128 → n < 128 → t ≡ (h + n) % 128 → held (set places t b) h (suc n) ≡ held places h n ++ b ∷ []

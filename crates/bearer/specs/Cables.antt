@@ -1,18 +1,22 @@
 -- A cable as a line, and what its far side does to it.
 use Rattle.std.specs.Prelude.{◌≡◌, ℕ, ◌+◌, ◌-◌, ◌<◌, ◌≤◌, List, [], ◌∷◌, ◌++◌, length, Some, None, Ok, Err, Option, Result}
+use Rattle.bearer.specs.Held.{held}
 use Rattle.bearer.specs.Lines.{Line}
 use Rattle.bearer.specs.declared.ring.Ring.{Ring}
 use Rattle.bearer.specs.declared.cable.Cable.{Cable}
 use Rattle.bearer.specs.declared.cable.FeedRefusal.{FeedRefusal}
 use Rattle.bearer.specs.declared.cable.FeedRefusal.TheVariants.{ExceedsPlaces}
 
--- the free places of a ring; what a ring means is the bytes that it holds, the oldest first
+-- the bytes that a ring holds, the oldest first, and its free places
+abbrev pub bytes_of : Ring → List ℕ
+bytes_of r = held r.places r.head r.count
+
 abbrev pub free_of : Ring → ℕ
-free_of r = 128 - length r
+free_of r = 128 - length (bytes_of r)
 
 -- the bytes fed wait, the bytes sent are held for the far side, and the room is the free places on that way
 abbrev pub line_of : Cable → Line
-line_of c = record { waiting = c.inward; sent = c.outward; room = free_of c.outward }
+line_of c = record { waiting = bytes_of c.inward; sent = bytes_of c.outward; room = free_of c.outward }
 
 -- the free places for bytes that are fed
 abbrev pub feed_room : Cable → ℕ
