@@ -40,6 +40,8 @@ pub type Event = Result<(), Fault>;
 pub struct Receiver {
     condition: Condition,
     body: ArrayVec<u8, LONGEST>,
+    // What the list's own type keeps to itself, said to callers.
+    ghost few: { length body.items ≤ 43 },
 }
 
 impl Receiver {
