@@ -16,9 +16,9 @@ fn pair(high: u8, low: u8) -> Option<u8>
     Some((high * 16 + low) as u8)
 }
 
-/// The bytes, and behind them those of a word, if it is made of whole pairs.
-fn push_pairs(mut bytes: Vec<u8>, word: &[u8]) -> Result<Option<Vec<u8>>, AllocError>
-    ensures { IfOk result (λ o. option_map vec_items o ≡ behind bytes.items (pairs word.now)) }
+/// Appends the bytes of a word, if it is made of whole pairs; of any other word, those before what is no pair.
+fn push_pairs(bytes: &mut Vec<u8>, word: &[u8]) -> Result<Option<()>, AllocError>
+    ensures { IfOk result (λ o. option_map (λ _. bytes.new.items) o ≡ behind bytes.old.items (pairs word.now)) }
 {
     let mut rest = word;
     while let [high, low, after @ ..] = rest {
@@ -28,7 +28,7 @@ fn push_pairs(mut bytes: Vec<u8>, word: &[u8]) -> Result<Option<Vec<u8>>, AllocE
         bytes.push(byte)?;
         rest = after;
     }
-    Ok(rest.is_empty().then_some(bytes))
+    Ok(rest.is_empty().then_some(()))
 }
 
 /// The bytes of words that are each made of whole pairs.
@@ -37,10 +37,9 @@ pub fn read_bytes(heap: Global, words: &[&[u8]]) -> Result<Option<Vec<u8>>, Allo
 {
     let mut bytes = Vec::new(heap);
     for word in words {
-        let Some(longer) = push_pairs(bytes, *word)? else {
+        let Some(()) = push_pairs(&mut bytes, *word)? else {
             return Ok(None);
         };
-        bytes = longer;
     }
     Ok(Some(bytes))
 }

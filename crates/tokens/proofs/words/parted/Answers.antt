@@ -6,7 +6,7 @@ use Rattle.std.specs.Slice.Iter.{split_rest, split_done, split_callee}
 use Rattle.std.specs.List.{filter, slice_split}
 use Rattle.tokens.specs.Words.{blank}
 use Rattle.tokens.proofs.Wording.{words_filter}
-use Rattle.tokens.proofs.words.split_words.Goals as goal
+use Rattle.tokens.proofs.words.parted.Goals as goal
 use borrow.Author.Tests.{tests}
 
 pub returns : goal.returns
