@@ -50,3 +50,19 @@ number_up_to j n h l = let o = number_over j n h in grind (arith, nat_tests)
 
 pub number_above : (j n : ℕ) → j < 4 → limit j ≤ n → suc j < length (number_form n)
 number_above j n h l = let o = number_over j n h in grind (arith, nat_tests)
+
+-- how many bytes a number takes, by its range
+pub one_byte : (n : ℕ) → n < 128 → 1 ≡ length (number_form n)
+one_byte n l = omega (arith, number_some n, number_up_to 0 n (omega arith) l)
+
+pub two_bytes : (n : ℕ) → 128 ≤ n → n < 16384 → 2 ≡ length (number_form n)
+two_bytes n h l = omega (arith, number_above 0 n (omega arith) h, number_up_to 1 n (omega arith) l)
+
+pub three_bytes : (n : ℕ) → 16384 ≤ n → n < 2097152 → 3 ≡ length (number_form n)
+three_bytes n h l = omega (arith, number_above 1 n (omega arith) h, number_up_to 2 n (omega arith) l)
+
+pub four_bytes : (n : ℕ) → 2097152 ≤ n → n < 268435456 → 4 ≡ length (number_form n)
+four_bytes n h l = omega (arith, number_above 2 n (omega arith) h, number_up_to 3 n (omega arith) l)
+
+pub five_bytes : (n : ℕ) → 268435456 ≤ n → 5 ≡ length (number_form n)
+five_bytes n h = omega (arith, number_above 3 n (omega arith) h, number_few n)

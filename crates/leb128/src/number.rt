@@ -69,6 +69,7 @@ pub fn read_number(bytes: &[u8]) -> Parsed<'_, u32>
 }
 
 /// How many bytes a number takes.
+#[tactic(auto, using(crate::proofs::Sizing::one_byte, crate::proofs::Sizing::two_bytes, crate::proofs::Sizing::three_bytes, crate::proofs::Sizing::four_bytes, crate::proofs::Sizing::five_bytes))]
 pub fn number_size(n: u32) -> usize
     ensures whole { result ≡ length (number_form n) }
     ensures small { result ≤ 5 }
