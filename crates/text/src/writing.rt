@@ -1,7 +1,6 @@
 //! Answers as text. The functions append to a `String` and are no `Display`: what they write are bytes and numbers, in forms of the console's.
 
 ghost use Rattle.std.specs.Prelude.{◌≡◌, ◌<◌, ◌++◌, string_bytes, codes, OnOk};
-ghost use Rattle.std.specs.List.{flat_map};
 ghost use Rattle.text.specs.Answers.{hex_digit, two_digits, solid_pairs, trailing_pairs, trailing_numbers, text_word, refusal};
 
 use crate::phrases::meaning;
@@ -22,23 +21,34 @@ fn hex_digit(value: u8) -> char
     char::from(code)
 }
 
-/// Appends a byte as two digits, behind a separator.
-// Digit by digit, not by the format `{:02X}`: that costs several times as much for each byte.
-fn write_pair(out: &mut String, separator: &str, byte: u8) -> Result<(), AllocError>
-    ensures { OnOk result (string_bytes out.new ≡ string_bytes out.old ++ (separator.now ++ two_digits byte)) }
+// Digit by digit, not by the format `{:02X}`, and the space by itself: the format and a separator of any length cost twice to five times as much
+// for each byte.
+/// Appends a byte as two digits.
+fn write_pair(out: &mut String, byte: u8) -> Result<(), AllocError>
+    ensures { OnOk result (string_bytes out.new ≡ string_bytes out.old ++ two_digits byte) }
 {
-    out.push_str(separator)?;
     out.push(hex_digit(byte / 16))?;
     out.push(hex_digit(byte % 16))?;
     Ok(())
 }
 
-/// Appends bytes as pairs, each behind a separator.
-fn write_pairs(out: &mut String, separator: &str, bytes: &[u8]) -> Result<(), AllocError>
-    ensures { OnOk result (string_bytes out.new ≡ string_bytes out.old ++ flat_map (λ b. separator.now ++ two_digits b) bytes.now) }
+/// Appends bytes as pairs with nothing between them.
+fn write_solid(out: &mut String, bytes: &[u8]) -> Result<(), AllocError>
+    ensures { OnOk result (string_bytes out.new ≡ string_bytes out.old ++ solid_pairs bytes.now) }
 {
     for byte in bytes {
-        write_pair(out, separator, *byte)?;
+        write_pair(out, *byte)?;
+    }
+    Ok(())
+}
+
+/// Appends bytes as pairs, each behind a space.
+fn write_trailing(out: &mut String, bytes: &[u8]) -> Result<(), AllocError>
+    ensures { OnOk result (string_bytes out.new ≡ string_bytes out.old ++ trailing_pairs bytes.now) }
+{
+    for byte in bytes {
+        out.push(' ')?;
+        write_pair(out, *byte)?;
     }
     Ok(())
 }
@@ -58,7 +68,7 @@ pub fn write_numbers(out: &mut String, numbers: &[u32]) -> Result<(), AllocError
 pub fn write_password(out: &mut String, password: [u8; 4]) -> Result<(), AllocError>
     ensures { OnOk result (string_bytes out.new ≡ string_bytes out.old ++ solid_pairs password) }
 {
-    write_pairs(out, "", &password)
+    write_solid(out, &password)
 }
 
 /// Appends a text of bytes as one word: its pairs, or `-` where it has none.
@@ -68,7 +78,7 @@ pub fn write_text(out: &mut String, text: &[u8]) -> Result<(), AllocError>
     if text.is_empty() {
         out.push('-')
     } else {
-        write_pairs(out, "", text)
+        write_solid(out, text)
     }
 }
 
@@ -86,5 +96,5 @@ pub fn write_bytes(out: &mut String, bytes: &[u8]) -> Result<(), AllocError>
     ensures { OnOk result (string_bytes out.new ≡ string_bytes out.old ++ (codes "bytes" ++ trailing_pairs bytes.now)) }
 {
     out.push_str("bytes")?;
-    write_pairs(out, " ", bytes)
+    write_trailing(out, bytes)
 }

@@ -1,5 +1,5 @@
 use Rattle.std.proofs.Common.{[], ◌∷◌, string_bytes, ap, ◌∙◌}
-use Rattle.text.proofs.Printing.{then_more, two_pushed}
+use Rattle.text.proofs.Printing.{two_pushed}
 use Rattle.text.proofs.writing.write_pair.Goals as goal
 
 pub returns : goal.returns
@@ -8,4 +8,4 @@ returns c =
     let q = c.in_ok-push-2.ensures in
     let d = c.hex_digit.ensures in
     let e = c.hex_digit-2.ensures in
-    then_more (string_bytes c.args.out.now) _ _ _ _ c.in_ok-push_str.ensures.bytes (two_pushed _ _ _ _ _ _ _ p.bytes (p.ascii d.ascii ∙ ap (λ x. x ∷ []) d.digit) q.bytes (q.ascii e.ascii ∙ ap (λ x. x ∷ []) e.digit))
+    two_pushed (string_bytes c.args.out.now) _ _ _ _ _ _ p.bytes (p.ascii d.ascii ∙ ap (λ x. x ∷ []) d.digit) q.bytes (q.ascii e.ascii ∙ ap (λ x. x ∷ []) e.digit)

@@ -1,0 +1,6 @@
+use Rattle.std.proofs.Common.{◌≡◌, ◌++◌, take, string_bytes}
+use Rattle.text.specs.Answers.{trailing_pairs}
+use Rattle.text.proofs.writing.write_trailing.Given as goal
+
+abbrev pub invariant-loop-byte : goal.invariant-loop-byte
+invariant-loop-byte x = string_bytes x.out ≡ string_bytes x.initial.out ++ trailing_pairs (take x.byte-index x.bytes)
