@@ -74,11 +74,15 @@ pub fn number_size(n: u32) -> usize
     ensures whole { result ≡ length (number_form n) }
     ensures small { result ≤ 5 }
 {
-    // A sum of tests, in which nothing branches: the numbers of a book differ in size from one to the next.
-    1 + usize::from(n >= 0x80)
-        + usize::from(n >= 0x4000)
-        + usize::from(n >= 0x20_0000)
-        + usize::from(n >= 0x1000_0000)
+    // Most numbers of a book take one byte; of the others a sum of tests, in which nothing branches, since their sizes differ.
+    match n {
+        0..0x80 => 1,
+        _ => {
+            2 + usize::from(n >= 0x4000)
+                + usize::from(n >= 0x20_0000)
+                + usize::from(n >= 0x1000_0000)
+        }
+    }
 }
 
 // Buffer and place stay two parameters of each writer: a struct around them would hold the loan of the buffer between a caller's writes.
