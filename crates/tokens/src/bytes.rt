@@ -1,6 +1,6 @@
 //! Bytes as pairs of hexadecimal digits.
 
-ghost use Rattle.std.specs.Prelude.{◌≡◌, map, IfOk, vec_items};
+ghost use Rattle.std.specs.Prelude.{◌≡◌, [], map, IfOk, vec_items};
 ghost use Rattle.std.specs.Option.{option_map};
 ghost use Rattle.tokens.specs.Bytes.{pair as byte_of, pairs, behind, bytes_of, four_of};
 
@@ -31,17 +31,25 @@ fn push_pairs(bytes: &mut Vec<u8>, word: &[u8]) -> Result<Option<()>, AllocError
     Ok(rest.is_empty().then_some(()))
 }
 
+/// Fills an empty list with the bytes of words, if each is made of whole pairs; else with those before what is no pair.
+fn push_words(bytes: &mut Vec<u8>, words: &[&[u8]]) -> Result<Option<()>, AllocError>
+    requires { bytes.old.items ≡ [] }
+    ensures { IfOk result (λ o. option_map (λ _. bytes.new.items) o ≡ bytes_of (map (λ w. w.now) words.now)) }
+{
+    for word in words {
+        let Some(()) = push_pairs(bytes, *word)? else {
+            return Ok(None);
+        };
+    }
+    Ok(Some(()))
+}
+
 /// The bytes of words that are each made of whole pairs.
 pub fn read_bytes(heap: Global, words: &[&[u8]]) -> Result<Option<Vec<u8>>, AllocError>
     ensures { IfOk result (λ o. option_map vec_items o ≡ bytes_of (map (λ w. w.now) words.now)) }
 {
     let mut bytes = Vec::new(heap);
-    for word in words {
-        let Some(()) = push_pairs(&mut bytes, *word)? else {
-            return Ok(None);
-        };
-    }
-    Ok(Some(bytes))
+    Ok(push_words(&mut bytes, words)?.map(|()| bytes))
 }
 
 /// Four bytes, as exactly eight digits.

@@ -1,7 +1,7 @@
 use Rattle.std.proofs.Common.{[], vec_items, sym, ap, ◌∙◌}
 use Rattle.std.specs.Option.{option_map}
 use Rattle.tokens.proofs.Pairing.{bytes_bad, bytes_more}
-use Rattle.tokens.proofs.bytes.read_bytes.Goals as goal
+use Rattle.tokens.proofs.bytes.push_words.Goals as goal
 
 pub returns-in_default : goal.returns-in_default
 returns-in_default c =
